@@ -24,6 +24,16 @@ pub use name::{Name, NameStop};
 pub use numbers::{put_u64s, read_u64s};
 use thiserror::Error;
 
+/// Why a reader of a block that takes memory gives no value.
+#[derive(Clone, Copy, Debug, PartialEq, Eq, Error)]
+pub enum CodecStop {
+    /// The bytes spell nothing of this kind.
+    #[error("not this kind of block")]
+    NotThis,
+    #[error("out of memory")]
+    NoMemory,
+}
+
 /// There is no memory left.
 #[derive(Clone, Copy, Debug, PartialEq, Eq, Error)]
 #[error("out of memory")]
