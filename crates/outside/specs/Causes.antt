@@ -1,0 +1,12 @@
+-- Counts of faults: a count that rose is the cause of a fault that is answered.
+-- Cited by the store, the source and the sink, and by the top call.
+use Rattle.std.specs.Prelude.{ℕ, ◌+◌, ◌-◌, ◌^◌, ◌≤◌, min, Result, OnErr}
+
+-- the count rose, or stands at the end of its type
+abbrev pub Rose : ℕ → ℕ → Type 0
+Rose before now = min (before + 1) (2 ^ 64 - 1) ≤ now
+
+-- a count never falls, and an error is answered only where it rose
+pub record HasCause {T E : Type 0} (before now : ℕ) (result : Result T E) : Type 0 where
+  pub later : before ≤ now
+  pub failed : OnErr result (Rose before now)

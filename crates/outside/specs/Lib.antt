@@ -1,0 +1,5 @@
+pub mod Array
+pub mod Causes
+pub mod Files
+pub mod Ports
+pub mod Store
