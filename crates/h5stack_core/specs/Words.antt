@@ -1,0 +1,88 @@
+-- Which words are admitted, and the first fault of those that are not.
+use Rattle.std.specs.Prelude.{ℕ, Bool, ◌&&◌, ◌||◌, not, ◌==◌, nat_le, List, [], ◌∷◌, ◌++◌, length, drop, map, slice_index, Option, Some, None, if◌then◌else◌, codes, string_bytes, String}
+use Rattle.std.specs.List.{starts_with, list_all}
+use Rattle.std.specs.Bool.{nat_eq}
+use Rattle.std.specs.Str.{bytes_eq}
+use Rattle.std.specs.Fmt.{decimal}
+use Rattle.std.specs.declared.alloc.Global.{Global}
+use Rattle.h5stack_core.specs.declared.words.WordFault.{WordFault}
+use Rattle.h5stack_core.specs.declared.words.WordFault.TheVariants.{Unknown, NotBuilt, Order, Name, Missing}
+
+-- a letter, a digit, `.`, `_` or `-`
+abbrev pub is_file_byte : ℕ → Bool
+is_file_byte b =
+    (nat_le 48 b && nat_le b 57) || (nat_le 65 b && nat_le b 90) || (nat_le 97 b && nat_le b 122) || b == 46 || b == 95 || b == 45
+
+-- 1 to 100 of these, the first not `.`
+abbrev pub is_file_name : List ℕ → Bool
+is_file_name text = not (length text == 0) && (nat_le (length text) 100 && (not (slice_index text 0 == 46) && list_all is_file_byte text))
+
+-- the actions that aren't built yet
+abbrev pub is_later_action : List ℕ → Bool
+is_later_action word =
+    bytes_eq word (codes "run") || bytes_eq word (codes "attach") || bytes_eq word (codes "recover") || bytes_eq word (codes "revisions")
+    || bytes_eq word (codes "channels") || bytes_eq word (codes "repart") || bytes_eq word (codes "generate")
+
+-- the layers of `create` that aren't built yet
+abbrev pub is_later_layer : List ℕ → Bool
+is_later_layer word =
+    starts_with nat_eq word (codes "splitter=") || starts_with nat_eq word (codes "family=") || starts_with nat_eq word (codes "split=")
+    || starts_with nat_eq word (codes "multi=") || starts_with nat_eq word (codes "subfiling=") || starts_with nat_eq word (codes "ext=")
+
+abbrev pub is_plain : List ℕ → Bool
+is_plain word = starts_with nat_eq word (codes "plain=")
+
+abbrev pub is_onion : List ℕ → Bool
+is_onion word = starts_with nat_eq word (codes "onion=")
+
+-- the file that a `plain` word names
+abbrev pub file_of : List ℕ → List ℕ
+file_of word = drop 6 word
+
+-- the fault of a word in the place of the base
+unfoldable pub base_fault : ℕ → List ℕ → Option WordFault
+base_fault k word =
+    if is_plain word then (if is_file_name (file_of word) then None else Some (Name k))
+    else (if is_later_layer word then Some (NotBuilt k) else (if is_onion word then Some (Order k) else Some (Unknown k)))
+
+-- and of a word behind the last
+unfoldable pub rest_fault : ℕ → List ℕ → WordFault
+rest_fault k word = if is_later_layer word then NotBuilt k else (if is_plain word || is_onion word then Order k else Unknown k)
+
+unfoldable pub action_fault : List ℕ → Option WordFault
+action_fault word = if bytes_eq word (codes "create") then None else (if is_later_action word then Some (NotBuilt 0) else Some (Unknown 0))
+
+-- the first of two
+abbrev pub first_of_two : Option WordFault → Option WordFault → Option WordFault
+first_of_two None other = other
+first_of_two (Some fault) other = Some fault
+
+abbrev pub after_base : List (List ℕ) → Option WordFault
+after_base [] = None
+after_base (word ∷ rest) = Some (rest_fault 2 word)
+
+abbrev pub after_action : List (List ℕ) → Option WordFault
+after_action [] = Some Missing
+after_action (word ∷ rest) = first_of_two (base_fault 1 word) (after_base rest)
+
+-- the first fault of the words, none where they are admitted
+abbrev pub word_fault : List (List ℕ) → Option WordFault
+word_fault [] = Some Missing
+word_fault (word ∷ rest) = first_of_two (action_fault word) (after_action rest)
+
+-- the file that admitted words name
+abbrev pub named : List (List ℕ) → List ℕ
+named (action ∷ base ∷ rest) = file_of base
+named words = []
+
+-- the words as lists of bytes
+abbrev pub texts : List (String Global) → List (List ℕ)
+texts = map string_bytes
+
+-- the line that tells a fault
+unfoldable pub usage_line : WordFault → List ℕ
+usage_line (Unknown k) = codes "usage: unknown " ++ decimal k ++ codes "\n"
+usage_line (NotBuilt k) = codes "usage: not-built " ++ decimal k ++ codes "\n"
+usage_line (Order k) = codes "usage: order " ++ decimal k ++ codes "\n"
+usage_line (Name k) = codes "usage: name " ++ decimal k ++ codes "\n"
+usage_line Missing = codes "usage: missing\n"

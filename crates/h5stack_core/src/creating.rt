@@ -1,0 +1,76 @@
+ghost use Rattle.std.specs.Prelude.{◌≡◌, ◌<◌, ℕ, List, [], length, IsTrue, IsErr, IsErrOf, IfOk, OnOk, OnErr};
+ghost use Rattle.outside.specs.Files.{Files, RestsAt};
+ghost use Rattle.outside.specs.Store.{Goes, SomeRose};
+ghost use Rattle.empty_file.specs.Empty.{empty_file};
+ghost use Rattle.h5stack_core.specs.Actions.{SameFiles};
+
+use empty_file::{EMPTY_LEN, write_empty_file};
+use h5_base::Name;
+use outside::{Failed, FileId, FileStop, Store};
+
+/// Why no file was created.
+#[derive(Clone, Copy, Debug, PartialEq, Eq)]
+pub enum CreateStop {
+    /// The file isn't empty.
+    Exists,
+    /// A call of the store failed.
+    Failed,
+    NoMemory,
+}
+
+/// The id of a file that has to be empty.
+fn open_empty<S: Store>(store: &mut S, name: &Name) -> Result<FileId, CreateStop>
+    ensures goes { Goes S.tells_files (λ _. ⊥) (S.view store.old) (S.view store.new) }
+    ensures id { IfOk result (λ id. (S.view store.new).names id.n ≡ name.now) }
+    ensures empty { IsTrue S.tells_files → OnOk result ((S.view store.old).files name.now ≡ []) }
+    ensures exists { IsTrue S.tells_files → IsErrOf result CreateStop.Exists → 0 < length ((S.view store.old).files name.now) }
+    ensures failed { IsErrOf result CreateStop.Failed → SomeRose (S.view store.old) (S.view store.new) }
+{
+    let _text = name.as_slice();
+    let id = match store.file(name) {
+        Ok(id) => id,
+        Err(FileStop::NoMemory) => return Err(CreateStop::NoMemory),
+        Err(FileStop::Failed) => return Err(CreateStop::Failed),
+    };
+    match store.len(id) {
+        Ok(0) => Ok(id),
+        Ok(_) => Err(CreateStop::Exists),
+        Err(Failed) => Err(CreateStop::Failed),
+    }
+}
+
+/// Writes the empty file's bytes into an empty file, and makes them last.
+fn write_empty<S: Store>(store: &mut S, id: FileId) -> Result<(), Failed>
+    requires given { 0 < length ((S.view store.old).names id.n) }
+    requires empty { IsTrue S.tells_files → (S.view store.old).files ((S.view store.old).names id.n) ≡ [] }
+    ensures goes { Goes S.tells_files (λ q. q ≡ (S.view store.old).names id.n) (S.view store.old) (S.view store.new) }
+    ensures bytes { IsTrue S.tells_files → OnOk result ((S.view store.new).files ((S.view store.old).names id.n) ≡ empty_file) }
+    ensures durable { IsTrue S.tells_images → IsTrue S.tells_files → IsTrue (S.view store.old).honest
+        → OnOk result (RestsAt ((S.view store.old).names id.n) empty_file (S.leaves store.new)) }
+    ensures failed { IsErr result → SomeRose (S.view store.old) (S.view store.new) }
+{
+    let mut file = [0; EMPTY_LEN];
+    write_empty_file(&mut file);
+    store.write(id, 0, &file)?;
+    store.sync(id)
+}
+
+/// Writes the empty file, where there is none yet.
+pub fn create<S: Store>(store: &mut S, name: &Name) -> Result<(), CreateStop>
+    ensures goes { Goes S.tells_files (λ q. q ≡ name.now) (S.view store.old) (S.view store.new) }
+    ensures bytes { IsTrue S.tells_files → OnOk result ((S.view store.new).files name.now ≡ empty_file) }
+    ensures durable { IsTrue S.tells_images → IsTrue S.tells_files → IsTrue (S.view store.old).honest
+        → OnOk result (RestsAt name.now empty_file (S.leaves store.new)) }
+    ensures was_empty { IsTrue S.tells_files → OnOk result ((S.view store.old).files name.now ≡ []) }
+    ensures exists { IsTrue S.tells_files → IsErrOf result CreateStop.Exists → 0 < length ((S.view store.old).files name.now) }
+    ensures exists_same { IsErrOf result CreateStop.Exists → SameFiles S.tells_files (S.view store.old) (S.view store.new) }
+    ensures memory_same { IsErrOf result CreateStop.NoMemory → SameFiles S.tells_files (S.view store.old) (S.view store.new) }
+    ensures failed { IsErrOf result CreateStop.Failed → SomeRose (S.view store.old) (S.view store.new) }
+{
+    let _text = name.as_slice();
+    let id = open_empty(store, name)?;
+    match write_empty(store, id) {
+        Ok(()) => Ok(()),
+        Err(Failed) => Err(CreateStop::Failed),
+    }
+}
