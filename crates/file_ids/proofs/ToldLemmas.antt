@@ -1,6 +1,6 @@
 -- What each step of the ids is to a store that tells them.
-use Rattle.std.proofs.Common.{◌≡◌, ◌≢◌, ℕ, zero, suc, ◌+◌, ◌^◌, ◌<◌, ◌≤◌, Bool, IsTrue, Option, Some, None, List, [], ◌∷◌, ◌++◌, length, get_or, set, refl, sym, ◌∙◌, ap, arith, inl, inr, length-append, get_or-set_other, get_or-set_same}
-use Rattle.std.proofs.lemmas.Bool.{cases_lt, cases_eq}
+use Rattle.std.proofs.Common.{◌≡◌, ◌≢◌, ℕ, zero, suc, ◌+◌, ◌^◌, ◌<◌, ◌≤◌, Bool, false, IsTrue, Option, Some, None, List, [], ◌∷◌, ◌++◌, length, get_or, set, refl, sym, ◌∙◌, ap, arith, inl, inr, length-append, get_or-set_other, get_or-set_same}
+use Rattle.std.proofs.lemmas.Bool.{cases_lt, cases_eq, false≢true}
 use Rattle.std.proofs.Math.ListN.{get_or-append}
 use Rattle.std.proofs.Math.Seq.{get_or-append_seam}
 use Rattle.std.proofs.lemmas.List.FromFn.{length-range_with_len, get_or-range_with_len}
@@ -8,14 +8,8 @@ use Rattle.std.specs.List.{range_with_len}
 use Rattle.outside.specs.Causes.{Rose}
 use Rattle.outside.specs.Files.{Files}
 use Rattle.outside.specs.Store.{Calls, Gives, SameIds, AreIds}
-use Rattle.file_ids.specs.Ids.{Ids, AreSound, place_of, one_more, struck, struck_own, added, counts_of, told}
+use Rattle.file_ids.specs.Ids.{Ids, AreSound, Counts, place_of, one_more, struck, struck_own, added, counts_of, told}
 use Rattle.file_ids.proofs.PlaceLemmas.{get_or-past, placed}
-
--- the counts before and after a call whose own count is this one
-pub record Counts (own : Option ℕ) (Failed : Type 0) (a b : Ids) : Type 0 where
-  pub later : (k : Option ℕ) → counts_of a.own a.faults k ≤ counts_of b.own b.faults k
-  pub failed : Failed → Rose (counts_of a.own a.faults own) (counts_of b.own b.faults own)
-  pub counts : (k : Option ℕ) → k ≢ own → counts_of b.own b.faults k ≡ counts_of a.own a.faults k
 
 pub calls_told : (tells : Bool) (own : Option ℕ) (Failed : Type 0) (Changed : List ℕ → Type 0) (a b : Ids) (m n : ℕ) (honest : Bool) (f g : Files)
     → Counts own Failed a b → m ≤ n → (IsTrue tells → (q : List ℕ) → (Changed q → ⊥) → g q ≡ f q)
@@ -28,6 +22,14 @@ calls_told tells own Failed Changed a b m n honest f g counts time others = reco
   moment = time;
   honest = refl;
   others = others;
+}
+
+-- the same of a fault that is answered in other words
+pub counts_as : (own : Option ℕ) (Failed Fault : Type 0) (a b : Ids) → Counts own Failed a b → (Fault → Failed) → Counts own Fault a b
+counts_as own Failed Fault a b counts same = record {
+  later = counts.later;
+  failed = λ f. counts.failed (same f);
+  counts = counts.counts;
 }
 
 pub counts_same : (own : Option ℕ) (Failed : Type 0) (a : Ids) → (Failed → ⊥) → Counts own Failed a a
@@ -170,3 +172,16 @@ ids_stand a m honest f sound = record {
   where
     here : (k : ℕ) → k < length a.names → get_or (range_with_len 0 (length a.names)) k 0 ≡ k
     here k lt = let e : 0 + k ≡ k = omega arith in get_or-range_with_len 0 (length a.names) k 0 lt ∙ e
+
+-- the same for a store that tells nothing of its files
+pub calls_untold : (own : Option ℕ) (Failed : Type 0) (Changed : List ℕ → Type 0) (a b : Ids) (m n : ℕ) (honest : Bool) (f g : Files)
+    → Counts own Failed a b → m ≤ n → Calls false own Failed Changed (told a m honest f) (told b n honest g)
+calls_untold own Failed Changed a b m n honest f g counts time = calls_told false own Failed Changed a b m n honest f g counts time (λ told. absurd (false≢true told))
+
+pub names_told : (a b : Ids) (m n : ℕ) (h k : Bool) (f g : Files) → b.names ≡ a.names → (told b n k g).names ≡ (told a m h f).names
+names_told a b m n h k f g is = (same_ids a b m n h k f g is).names
+
+pub ids_told : (a b : Ids) (m n : ℕ) (h k : Bool) (f g : Files) → b.names ≡ a.names → (told b n k g).ids ≡ (told a m h f).ids
+ids_told a b m n h k f g is = (same_ids a b m n h k f g is).ids
+
+pub ruleset untold_steps = (calls_untold, names_told, ids_told, within)

@@ -1,8 +1,9 @@
 -- The ids of a store as lists: an id is the place of its file's name.
 -- Cited by the stores, whose names and counts of faults are told by these lists.
-use Rattle.std.specs.Prelude.{◌≡◌, ℕ, suc, ◌+◌, ◌-◌, ◌^◌, ◌<◌, Bool, List, [], ◌∷◌, ◌++◌, length, slice_set, slice_index, slice_index_or, min, Option, Some, None, if◌then◌else◌}
+use Rattle.std.specs.Prelude.{◌≡◌, ℕ, suc, ◌+◌, ◌-◌, ◌^◌, ◌<◌, ◌≤◌, ◌≢◌, Bool, List, [], ◌∷◌, ◌++◌, length, slice_set, slice_index, slice_index_or, min, Option, Some, None, if◌then◌else◌}
 use Rattle.std.specs.List.{range_with_len}
 use Rattle.std.specs.Str.{bytes_eq}
+use Rattle.outside.specs.Causes.{Rose}
 use Rattle.outside.specs.Files.{Files}
 use Rattle.outside.specs.Store.{View}
 
@@ -55,3 +56,9 @@ told ids moment honest files = record {
   honest = honest;
   files = files;
 }
+
+-- the counts before and after a call whose own count is this one
+pub record Counts (own : Option ℕ) (Failed : Type 0) (a b : Ids) : Type 0 where
+  pub later : (k : Option ℕ) → counts_of a.own a.faults k ≤ counts_of b.own b.faults k
+  pub failed : Failed → Rose (counts_of a.own a.faults own) (counts_of b.own b.faults own)
+  pub counts : (k : Option ℕ) → k ≢ own → counts_of b.own b.faults k ≡ counts_of a.own a.faults k

@@ -63,8 +63,10 @@ impl FileIds {
     pub fn find(&self, name: &Name) -> Option<usize>
         ensures place { MatchOption result (place_of name.now self.now.names ≡ length self.now.names)
             (λ i. (i < length self.now.names) × (place_of name.now self.now.names ≡ i)) }
+        ensures some { 0 < length name.now }
         ensures sound { AreSound self.now }
     {
+        let _text = name.as_slice();
         place(self.names.as_slice(), name)
     }
 
