@@ -2,7 +2,11 @@
 #![tactic(auto)]
 
 mod dims;
+mod shape_codec;
+mod type_codec;
 mod types;
 
 pub use dims::Dims;
+pub use shape_codec::{read_shape, write_shape};
+pub use type_codec::{read_type, write_type};
 pub use types::{ElemType, Pad, PartStop, Shape, Value, ValueStop};
