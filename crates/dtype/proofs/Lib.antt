@@ -1,2 +1,3 @@
 pub mod TypeLaws
 pub mod ShapeLaws
+pub mod NumberLaws

@@ -1,9 +1,8 @@
 -- What the bytes of an element mean, which bytes a value has, and how a value is printed, by the HDF5 File Format
 -- Specification 3.0, IV.A.2.d (classes 0 and 3). Cited by `encode_value` and `print_value`, and by whatever reads,
 -- writes or prints elements.
-use Rattle.std.specs.Prelude.{◌≡◌, ℕ, ◌+◌, ◌-◌, ◌*◌, ◌/◌, ◌%◌, ◌≤◌, ◌<◌, ◌==◌, Bool, true, false, not, ◌&&◌, ◌||◌, if◌then◌else◌, ℤ, pos, List, [], ◌∷◌, ◌++◌, length, take, replicate, flat_map, IsTrue}
-use Rattle.std.specs.Int.{Width, w8, w16, w32, w64, FitsUnsigned, cast_signed, cast_unsigned, to_le_bytes, to_be_bytes, from_le_bytes, from_be_bytes, is_in_range}
-use Rattle.std.specs.Int.RustNames.{FitsSigned}
+use Rattle.std.specs.Prelude.{◌≡◌, ℕ, ◌+◌, ◌-◌, ◌*◌, ◌/◌, ◌%◌, ◌^◌, ◌≤◌, ◌<◌, ◌≤ℤ◌, ◌<ℤ◌, neg_ℤ, ◌==◌, Bool, true, false, not, ◌&&◌, ◌||◌, if◌then◌else◌, ℤ, pos, List, [], ◌∷◌, ◌++◌, length, take, replicate, flat_map, IsTrue}
+use Rattle.std.specs.Int.{Width, w8, w16, w32, w64, cast_signed, cast_unsigned, to_le_bytes, to_be_bytes, from_le_bytes, from_be_bytes, is_in_range}
 use Rattle.std.specs.List.{take_while, suffix_len}
 use Rattle.std.specs.Fmt.{signed_decimal, digit_glyph}
 use Rattle.dtype.specs.declared.types.Pad.{Pad}
@@ -19,10 +18,10 @@ use Rattle.dtype.specs.declared.types.Value.TheVariants as value
 abbrev pub width_of : ℕ → Width
 width_of size = if size == 1 then w8 else (if size == 2 then w16 else (if size == 4 then w32 else w64))
 
--- the numbers that such an integer can hold
-abbrev pub HoldsNumber : (signed : Bool) → Width → ℤ → Type 0
-HoldsNumber true w z = FitsSigned w z
-HoldsNumber false w z = FitsUnsigned w z
+-- the numbers that an integer of this size can hold
+abbrev pub HoldsNumber : (signed : Bool) (size : ℕ) → ℤ → Type 0
+HoldsNumber true size z = (neg_ℤ (pos (2 ^ (8 * size - 1))) ≤ℤ z) × (z <ℤ pos (2 ^ (8 * size - 1)))
+HoldsNumber false size z = (pos 0 ≤ℤ z) × (z <ℤ pos (2 ^ (8 * size)))
 
 -- the bytes of a number that fits, the low one first or the high one
 abbrev pub number_bytes : (big : Bool) → Width → ℤ → List ℕ
@@ -70,7 +69,7 @@ unpadded Space text = without_last 32 text
 
 -- The type can hold the value: a number in its range, or a text that leaves room for the padding that must be there.
 abbrev pub CanHold : ElemType → Value → Type 0
-CanHold (elem.Int size signed big) (value.Num z) = HoldsNumber signed (width_of size) z
+CanHold (elem.Int size signed big) (value.Num z) = HoldsNumber signed size z
 CanHold (elem.Int size signed big) (value.Text text) = ⊥
 CanHold (elem.Text size pad) (value.Num z) = ⊥
 CanHold (elem.Text size pad) (value.Text text) = length text + least_fill pad ≤ size

@@ -2,6 +2,7 @@
 #![tactic(auto)]
 
 mod dims;
+mod numbers;
 mod shape_codec;
 mod type_codec;
 mod types;
