@@ -4,10 +4,13 @@
 mod dims;
 mod numbers;
 mod shape_codec;
+mod texts;
 mod type_codec;
 mod types;
+mod values;
 
 pub use dims::Dims;
 pub use shape_codec::{read_shape, write_shape};
 pub use type_codec::{read_type, write_type};
 pub use types::{ElemType, Pad, PartStop, Shape, Value, ValueStop};
+pub use values::{can_hold, print_value};
