@@ -1,3 +1,4 @@
 pub mod TypeLaws
 pub mod ShapeLaws
 pub mod NumberLaws
+pub mod ValueLaws

@@ -1,5 +1,5 @@
 -- A dataspace that is written is spelled.
-use Rattle.std.proofs.Common.{◌≡◌, ℕ, zero, suc, ◌+◌, ◌*◌, ◌/◌, ◌%◌, ◌^◌, ◌<◌, ◌≤◌, Bool, true, false, List, [], ◌∷◌, ◌++◌, length, All, refl, sym, ap, subst, ◌∙◌, arith, append_assoc, append-nil, length-append}
+use Rattle.std.proofs.Common.{◌≡◌, ℕ, zero, suc, ◌+◌, ◌*◌, ◌/◌, ◌%◌, ◌^◌, ◌<◌, ◌≤◌, Bool, true, false, List, [], ◌∷◌, ◌++◌, length, All, refl, sym, ap, subst, ◌∙◌, arith, append_assoc, length-append}
 use Rattle.std.specs.Prelude.{◌==◌, Option, None, Some}
 use Rattle.std.specs.Int.{w64, to_le_bytes}
 use Rattle.h5_base.specs.Fields.{u64_at, u64s_at, u64s_bytes}
@@ -36,47 +36,54 @@ dims_read rank flags dims rest h =
     rw (append_assoc (front rank flags) (u64s_bytes dims) rest, u64s_at-past (front rank flags) (u64s_bytes dims ++ rest) 0 8 (length dims))
     (u64s_at-written dims rest h)
 
-max_read : (rank flags : ℕ) (dims max : List ℕ) → AreU64s max → length max ≡ length dims → u64s_at ((front rank flags ++ u64s_bytes dims) ++ u64s_bytes max) (8 + 8 * length dims) 8 (length dims) ≡ max
-max_read rank flags dims max h e =
+max_read : (rank flags : ℕ) (dims max rest : List ℕ) → AreU64s max → length max ≡ length dims → u64s_at ((front rank flags ++ u64s_bytes dims) ++ (u64s_bytes max ++ rest)) (8 + 8 * length dims) 8 (length dims) ≡ max
+max_read rank flags dims max rest h e =
     let at : 8 + 8 * length dims ≡ length (front rank flags ++ u64s_bytes dims) + 0 = omega (arith, length-u64s_bytes dims, length-append (front rank flags) (u64s_bytes dims)) in
-    let all : u64s_bytes max ≡ u64s_bytes max ++ [] = sym (append-nil (u64s_bytes max)) in
-    rw (at, u64s_at-past (front rank flags ++ u64s_bytes dims) (u64s_bytes max) 0 8 (length dims), ← e, all)
-    (u64s_at-written max [] h)
+    rw (at, u64s_at-past (front rank flags ++ u64s_bytes dims) (u64s_bytes max ++ rest) 0 8 (length dims), ← e)
+    (u64s_at-written max rest h)
 
 abbrev shape : List ℕ → Option (List ℕ) → Shape
 shape dims max = record { dims = dims; max = max }
 
-plain_spelled : (dims : List ℕ) → length dims ≤ 32 → AreU64s dims → SpellsShape (shape dims None) (front (length dims) 0 ++ u64s_bytes dims ++ [])
-plain_spelled dims rank d = record {
+plain_spelled : (dims rest : List ℕ) → length dims ≤ 32 → AreU64s dims → SpellsShape (shape dims None) ((front (length dims) 0 ++ u64s_bytes dims) ++ rest)
+plain_spelled dims rest rank d = record {
   space = record {
-    whole = omega (arith, length-append (u64s_bytes dims) [], length-u64s_bytes dims);
+    whole = omega (arith, length-append (u64s_bytes dims) rest, length-u64s_bytes dims);
     version = refl;
     rank = rank;
     unpermuted = refl;
   };
-  value = sym (ap (λ ds. shape ds None) (dims_read (length dims) 0 dims [] d));
+  value = sym (ap (λ ds. shape ds None) (dims_read (length dims) 0 dims rest d));
 }
 
-bounded_spelled : (dims max : List ℕ) → length dims ≤ 32 → length max ≡ length dims → AreU64s dims → AreU64s max → SpellsShape (shape dims (Some max)) (front (length dims) 1 ++ u64s_bytes dims ++ u64s_bytes max)
-bounded_spelled dims max rank e d m = record {
+bounded_spelled : (dims max rest : List ℕ) → length dims ≤ 32 → length max ≡ length dims → AreU64s dims → AreU64s max → SpellsShape (shape dims (Some max)) ((front (length dims) 1 ++ u64s_bytes dims) ++ (u64s_bytes max ++ rest))
+bounded_spelled dims max rest rank e d m = record {
   space = record {
-    whole = omega (arith, e, length-append (u64s_bytes dims) (u64s_bytes max), length-u64s_bytes dims, length-u64s_bytes max);
+    whole =
+        omega
+        (arith, e, length-append (u64s_bytes dims) (u64s_bytes max ++ rest), length-append (u64s_bytes max) rest, length-u64s_bytes dims, length-u64s_bytes max);
     version = refl;
     rank = rank;
     unpermuted = refl;
   };
   value =
       sym
-      (ap (λ ds. shape ds (Some max)) (dims_read (length dims) 1 dims (u64s_bytes max) d))
-      ∙ sym (ap (λ ms. shape (u64s_at (front (length dims) 1 ++ u64s_bytes dims ++ u64s_bytes max) 8 8 (length dims)) (Some ms)) (max_read (length dims) 1 dims max m e));
+      (ap (λ ds. shape ds (Some max)) (dims_read (length dims) 1 dims (u64s_bytes max ++ rest) d))
+      ∙ sym (ap (λ ms. shape (u64s_at ((front (length dims) 1 ++ u64s_bytes dims) ++ (u64s_bytes max ++ rest)) 8 8 (length dims)) (Some ms)) (max_read (length dims) 1 dims max rest m e));
 }
 
-by_max : (dims : List ℕ) (max : Option (List ℕ)) → IsShape (shape dims max) → AreU64s dims → MaxAreU64s max → SpellsShape (shape dims max) (front (length dims) (max_flag max) ++ u64s_bytes dims ++ max_bytes max)
-by_max dims None h d m = plain_spelled dims h.rank d
-by_max dims (Some max) h d m = bounded_spelled dims max h.rank h.same_rank d m
+by_max : (dims rest : List ℕ) (max : Option (List ℕ)) → IsShape (shape dims max) → AreU64s dims → MaxAreU64s max → SpellsShape (shape dims max) ((front (length dims) (max_flag max) ++ u64s_bytes dims) ++ (max_bytes max ++ rest))
+by_max dims rest None h d m = plain_spelled dims rest h.rank d
+by_max dims rest (Some max) h d m = bounded_spelled dims max rest h.rank h.same_rank d m
 
-pub shape_spelled : (s : Shape) → IsShape s → AreU64s s.dims → MaxAreU64s s.max → SpellsShape s (shape_bytes s)
-shape_spelled s h d m =
+-- also where more bytes follow
+pub shape_spelled : (s : Shape) → IsShape s → AreU64s s.dims → MaxAreU64s s.max → (rest : List ℕ) → SpellsShape s (shape_bytes s ++ rest)
+shape_spelled s h d m rest =
     let low : length s.dims % 256 ≡ length s.dims = omega (arith, h.rank) in
-    let P : ℕ → Type 0 = λ rank. SpellsShape s (front rank (max_flag s.max) ++ u64s_bytes s.dims ++ max_bytes s.max) in
-    subst P (sym low) (by_max s.dims s.max h d m)
+    let P : ℕ → Type 0 = λ rank. SpellsShape s ((front rank (max_flag s.max) ++ u64s_bytes s.dims) ++ (max_bytes s.max ++ rest)) in
+    rw (append_assoc (front (length s.dims % 256) (max_flag s.max) ++ u64s_bytes s.dims) (max_bytes s.max) rest)
+    (subst P (sym low) (by_max s.dims rest s.max h d m))
+
+-- bytes spell one shape
+pub shape_unique : (s t : Shape) (b : List ℕ) → SpellsShape s b → SpellsShape t b → s ≡ t
+shape_unique s t b p q = p.value ∙ sym q.value

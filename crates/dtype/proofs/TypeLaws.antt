@@ -1,5 +1,5 @@
 -- A datatype that is written is spelled.
-use Rattle.std.proofs.Common.{◌≡◌, ℕ, ◌+◌, ◌*◌, ◌/◌, ◌%◌, ◌^◌, ◌<◌, ◌≤◌, Bool, true, false, refl, sym, ap, subst, ◌∙◌, arith, inl, inr, ◌⊎◌}
+use Rattle.std.proofs.Common.{◌≡◌, ℕ, ◌+◌, ◌*◌, ◌/◌, ◌%◌, ◌^◌, ◌<◌, ◌≤◌, Bool, true, false, List, ◌++◌, refl, sym, ap, subst, ◌∙◌, arith, inl, inr, ◌⊎◌}
 use Rattle.std.specs.Prelude.{◌==◌}
 use Rattle.std.proofs.lemmas.Nat.{from_le_bytes-to_le_bytes_2, from_le_bytes-to_le_bytes_4}
 use Rattle.h5_base.specs.Fields.{u16_at, u32_at}
@@ -7,7 +7,7 @@ use Rattle.dtype.specs.declared.types.Pad.{Pad}
 use Rattle.dtype.specs.declared.types.Pad.TheVariants.{Nul, Ended, Space}
 use Rattle.dtype.specs.declared.types.ElemType.{ElemType}
 use Rattle.dtype.specs.declared.types.ElemType.TheVariants.{Int, Text}
-use Rattle.dtype.specs.Types.{IsIntSize, IsTextSize, IsElemType, SpellsType, type_bytes, flag, pad_code, pad_of}
+use Rattle.dtype.specs.Types.{IsIntSize, IsTextSize, IsElemType, SpellsType, class_of, type_bytes, flag, pad_code, pad_of}
 
 small_int : (size : ℕ) → IsIntSize size → size ≤ 8
 small_int size h = omega (arith, h)
@@ -30,9 +30,9 @@ order_kept true false = refl
 order_kept false true = refl
 order_kept false false = refl
 
-int_spelled : (size : ℕ) (signed big : Bool) → IsIntSize size → SpellsType (Int size signed big) (type_bytes (Int size signed big))
+int_spelled : (size : ℕ) (signed big : Bool) → IsIntSize size → (rest : List ℕ) → SpellsType (Int size signed big) (type_bytes (Int size signed big) ++ rest)
 unfolding u16_at u32_at
-int_spelled size signed big h =
+int_spelled size signed big h rest =
     let small = small_int size h in
     let wide : size < 2 ^ 32 = omega arith in
     let short : 8 * size < 2 ^ 16 = omega arith in
@@ -61,9 +61,9 @@ pad_kept Nul = refl
 pad_kept Ended = refl
 pad_kept Space = refl
 
-text_spelled : (size : ℕ) (pad : Pad) → IsTextSize size → SpellsType (Text size pad) (type_bytes (Text size pad))
+text_spelled : (size : ℕ) (pad : Pad) → IsTextSize size → (rest : List ℕ) → SpellsType (Text size pad) (type_bytes (Text size pad) ++ rest)
 unfolding u16_at u32_at
-text_spelled size pad h =
+text_spelled size pad h rest =
     let wide : size < 2 ^ 32 = omega (arith, h) in
     let s = from_le_bytes-to_le_bytes_4 size wide in
     inr (record {
@@ -73,6 +73,17 @@ text_spelled size pad h =
       charset = charset_zero pad;
     }, rw (s, pad_kept pad) refl)
 
-pub type_spelled : (t : ElemType) → IsElemType t → SpellsType t (type_bytes t)
-type_spelled (Int size signed big) h = int_spelled size signed big h
-type_spelled (Text size pad) h = text_spelled size pad h
+-- also where more bytes follow
+pub type_spelled : (t : ElemType) → IsElemType t → (rest : List ℕ) → SpellsType t (type_bytes t ++ rest)
+type_spelled (Int size signed big) h rest = int_spelled size signed big h rest
+type_spelled (Text size pad) h rest = text_spelled size pad h rest
+
+apart : (b : List ℕ) → class_of b ≡ 0 → class_of b ≡ 3 → ⊥
+apart b zero three = omega arith
+
+-- bytes spell one type
+pub type_unique : (s t : ElemType) (b : List ℕ) → SpellsType s b → SpellsType t b → s ≡ t
+type_unique s t b (inl p) (inl q) = p.1 ∙ sym q.1
+type_unique s t b (inl p) (inr q) = absurd (apart b p.0.class.class_is q.0.class.class_is)
+type_unique s t b (inr p) (inl q) = absurd (apart b q.0.class.class_is p.0.class.class_is)
+type_unique s t b (inr p) (inr q) = p.1 ∙ sym q.1

@@ -13,4 +13,4 @@ pub use dims::Dims;
 pub use shape_codec::{read_shape, write_shape};
 pub use type_codec::{read_type, write_type};
 pub use types::{ElemType, Pad, PartStop, Shape, Value, ValueStop};
-pub use values::{can_hold, print_value};
+pub use values::{can_hold, encode_value, print_value};

@@ -1,4 +1,4 @@
-ghost use Rattle.std.specs.Prelude.{◌≡◌, ◌+◌, ◌*◌, ◌≤◌, ◌↔◌, ◌++◌, IfOk, OnOk, IsTrue, length};
+ghost use Rattle.std.specs.Prelude.{◌≡◌, ◌+◌, ◌*◌, ◌≤◌, ◌↔◌, ◌++◌, List, ℕ, IfOk, OnOk, IsTrue, length};
 ghost use Rattle.h5_base.specs.Fields.{u64s_at, u64s_bytes};
 ghost use Rattle.dtype.specs.Shapes.{IsShape, IsSpace, SpellsShape, shape_of, shape_bytes, max_bytes, AreU64s, MaxAreU64s};
 
@@ -83,8 +83,8 @@ fn append_max(bytes: &mut Vec<u8>, max: &Option<Dims>) -> Result<(), NoMemory>
 /// for each size. Only a shape of at most 32 dimensions and as many maximum sizes as sizes is read again.
 pub fn write_shape(alloc: Global, shape: &Shape) -> Result<Bytes, NoMemory>
     ensures bytes { IfOk result (λ b. b ≡ shape_bytes shape.now) }
-    // What is written is read again as the same shape.
-    ensures spelled { IfOk result (λ b. IsShape shape.now → SpellsShape shape.now b) }
+    // What is written is read again as the same shape, also where more bytes follow.
+    ensures spelled { IfOk result (λ b. IsShape shape.now → (rest : List ℕ) → SpellsShape shape.now (b ++ rest)) }
 {
     let sizes = shape.dims.as_slice();
     let rank = (sizes.len() % 256) as u8;

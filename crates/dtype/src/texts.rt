@@ -1,4 +1,4 @@
-ghost use Rattle.std.specs.Prelude.{◌≡◌, ◌<◌, ◌≤◌, ◌++◌, IfOk, OnOk, length, true};
+ghost use Rattle.std.specs.Prelude.{◌≡◌, ◌<◌, ◌≤◌, ◌+◌, ◌++◌, ◌↔◌, IfOk, OnOk, IsTrue, length, true};
 ghost use Rattle.std.specs.Fmt.{digit_glyph};
 ghost use Rattle.dtype.specs.Values.{filler, is_plain, least_fill, quoted, symbol, text_bytes, unpadded, without_last};
 
@@ -17,13 +17,20 @@ fn fill_byte(pad: Pad) -> u8
 }
 
 /// How many of them an element has at least.
-pub(crate) fn fill_at_least(pad: Pad) -> usize
+fn fill_at_least(pad: Pad) -> usize
     ensures { result ≡ least_fill pad }
 {
     match pad {
         Pad::Ended => 1,
         Pad::Nul | Pad::Space => 0,
     }
+}
+
+/// Whether a string of this size can hold the text.
+pub(crate) fn holds_text(size: usize, pad: Pad, text: &[u8]) -> bool
+    ensures { IsTrue result ↔ (length text.now + least_fill pad ≤ size) }
+{
+    text.len() <= size && fill_at_least(pad) <= size - text.len()
 }
 
 /// The text, filled up to the size of an element.

@@ -1,4 +1,4 @@
-ghost use Rattle.std.specs.Prelude.{◌≡◌, ◌<◌, ◌≤◌, ◌↔◌, IfOk, IfSome, IsTrue};
+ghost use Rattle.std.specs.Prelude.{◌≡◌, ◌<◌, ◌≤◌, ◌↔◌, ◌++◌, List, ℕ, IfOk, IfSome, IsTrue};
 ghost use Rattle.dtype.specs.Types.{IsClass, IsElemType, IsInt, IsText, IsIntSize, IsTextSize, SpellsType, head_bytes, int_of, pad_code, pad_of, size_of, text_of, type_bytes};
 
 use crate::{ElemType, Pad};
@@ -138,8 +138,8 @@ fn int_bytes(size: u8, signed: bool, big: bool) -> [u8; 12]
 /// message that holds it is filled up to a multiple of 8 by who writes it.
 pub fn write_type(alloc: Global, elem: &ElemType) -> Result<Bytes, NoMemory>
     ensures bytes { IfOk result (λ b. b ≡ type_bytes elem.now) }
-    // What is written is read again as the same type.
-    ensures spelled { IfOk result (λ b. IsElemType elem.now → SpellsType elem.now b) }
+    // What is written is read again as the same type, also where more bytes follow.
+    ensures spelled { IfOk result (λ b. IsElemType elem.now → (rest : List ℕ) → SpellsType elem.now (b ++ rest)) }
 {
     match *elem {
         ElemType::Int { size, signed, big } => {
