@@ -1,3 +1,4 @@
+pub mod Products
 pub mod Types
 pub mod Shapes
 pub mod Values
