@@ -38,13 +38,16 @@ int_spelled size signed big h rest =
     let short : 8 * size < 2 ^ 16 = omega arith in
     let s = from_le_bytes-to_le_bytes_4 size wide in
     let p = from_le_bytes-to_le_bytes_2 (8 * size) short in
-    inl (record {
-      class = record { whole_there = omega arith; class_is = refl; oldest = omega arith; newest = omega arith };
-      size = rw s h;
-      padding = no_padding signed big;
-      offset = refl;
-      precision = rw (s, p) refl;
-    }, rw (s, sign_kept signed big, order_kept signed big) refl)
+    inl (
+      record {
+        class = record { whole_there = omega arith; class_is = refl; oldest = omega arith; newest = omega arith };
+        size = rw s h;
+        padding = no_padding signed big;
+        offset = refl;
+        precision = rw (s, p) refl;
+      },
+      rw (s, sign_kept signed big, order_kept signed big) refl,
+    )
 
 pad_small : (pad : Pad) → pad_code pad % 16 ≤ 2
 pad_small Nul = omega arith
@@ -66,12 +69,15 @@ unfolding u16_at u32_at
 text_spelled size pad h rest =
     let wide : size < 2 ^ 32 = omega (arith, h) in
     let s = from_le_bytes-to_le_bytes_4 size wide in
-    inr (record {
-      class = record { whole_there = omega arith; class_is = refl; oldest = omega arith; newest = omega arith };
-      size = rw s h;
-      padding = pad_small pad;
-      charset = charset_zero pad;
-    }, rw (s, pad_kept pad) refl)
+    inr (
+      record {
+        class = record { whole_there = omega arith; class_is = refl; oldest = omega arith; newest = omega arith };
+        size = rw s h;
+        padding = pad_small pad;
+        charset = charset_zero pad;
+      },
+      rw (s, pad_kept pad) refl,
+    )
 
 -- also where more bytes follow
 pub type_spelled : (t : ElemType) → IsElemType t → (rest : List ℕ) → SpellsType t (type_bytes t ++ rest)

@@ -4,6 +4,8 @@
 mod dims;
 mod numbers;
 mod shape_codec;
+#[cfg(test)]
+mod tests;
 mod texts;
 mod type_codec;
 mod types;

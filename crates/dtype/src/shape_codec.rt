@@ -88,7 +88,10 @@ pub fn write_shape(alloc: Global, shape: &Shape) -> Result<Bytes, NoMemory>
 {
     let sizes = shape.dims.as_slice();
     let rank = (sizes.len() % 256) as u8;
-    let mut bytes = match Vec::from_slice(alloc, &[1, rank, u8::from(shape.max.is_some()), 0, 0, 0, 0, 0]) {
+    let mut bytes = match Vec::from_slice(
+        alloc,
+        &[1, rank, u8::from(shape.max.is_some()), 0, 0, 0, 0, 0],
+    ) {
         Ok(bytes) => bytes,
         Err(_) => return Err(NoMemory),
     };

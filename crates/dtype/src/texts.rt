@@ -90,7 +90,11 @@ fn hex_digit(digit: u8) -> u8
     requires { digit < 16 }
     ensures { result ≡ digit_glyph true digit }
 {
-    if digit < 10 { b'0' + digit } else { b'A' + (digit - 10) }
+    if digit < 10 {
+        b'0' + digit
+    } else {
+        b'A' + (digit - 10)
+    }
 }
 
 fn append(text: &mut Vec<u8>, bytes: &[u8]) -> Result<(), NoMemory>
@@ -115,7 +119,10 @@ fn append_symbol(text: &mut Vec<u8>, byte: u8) -> Result<(), NoMemory>
     if is_plain_byte(byte) {
         append(text, &[byte])
     } else {
-        append(text, &[b'\\', b'x', hex_digit(byte / 16), hex_digit(byte % 16)])
+        append(
+            text,
+            &[b'\\', b'x', hex_digit(byte / 16), hex_digit(byte % 16)],
+        )
     }
 }
 

@@ -62,11 +62,7 @@ fn encode_string(alloc: Global, size: usize, pad: Pad, text: &[u8]) -> Result<By
 
 /// The bytes of an element that holds the value; `WrongValue` for a text where the type is an integer, a number where
 /// it is a string, a number out of range, and a text of more than `size` bytes, `size` - 1 where it has to end with NUL.
-pub fn encode_value(
-    alloc: Global,
-    elem_type: &ElemType,
-    value: &Value,
-) -> Result<Bytes, ValueStop>
+pub fn encode_value(alloc: Global, elem_type: &ElemType, value: &Value) -> Result<Bytes, ValueStop>
     requires { IsElemType elem_type.now }
     ensures bytes { IfOk result (λ b. b ≡ encoding elem_type.now value.now) }
     ensures size { IfOk result (λ b. length b ≡ size_of elem_type.now) }

@@ -22,9 +22,9 @@ returns-in-Int-Num-clause-read_again c =
     let whole : to_z w128 (of_z w128 a.number) ≡ a.number = to_z-of_z w128 a.number fits in
     both c.encode_int.result _ _ _
     (λ b h e.
-        let held : CanHold t (value.Num a.number) = rw (← from, ← whole) h in
-        let is : b ≡ encoding t (value.Num a.number) = rw (← from, ← whole) e in
-        rw (a.is-0, a.is-1, is) (encoding_read t (value.Num a.number) i held))
+    let held : CanHold t (value.Num a.number) = rw (← from, ← whole) h in
+    let is : b ≡ encoding t (value.Num a.number) = rw (← from, ← whole) e in
+    rw (a.is-0, a.is-1, is) (encoding_read t (value.Num a.number) i held))
     c.encode_int.ensures.held c.encode_int.ensures.bytes
 
 pub returns-in-Text-Text-clause-read_again : goal.returns-in-Text-Text-clause-read_again
@@ -35,7 +35,7 @@ returns-in-Text-Text-clause-read_again c =
     let from : c.as_slice.result.now ≡ a.text = c.as_slice.ensures in
     both c.encode_string.result _ _ _
     (λ b h e.
-        let held : CanHold t (value.Text a.text) = rw (← from) h in
-        let is : b ≡ encoding t (value.Text a.text) = rw (← from) e in
-        rw (a.is-0, a.is-1, is) (encoding_read t (value.Text a.text) i held))
+    let held : CanHold t (value.Text a.text) = rw (← from) h in
+    let is : b ≡ encoding t (value.Text a.text) = rw (← from) e in
+    rw (a.is-0, a.is-1, is) (encoding_read t (value.Text a.text) i held))
     c.encode_string.ensures.held c.encode_string.ensures.bytes
