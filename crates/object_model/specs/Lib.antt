@@ -1,0 +1,5 @@
+pub mod Tree
+pub mod Boxes
+pub mod Data
+pub mod Step
+pub mod Laws
