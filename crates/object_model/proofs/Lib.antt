@@ -1,0 +1,5 @@
+pub mod BoxLemmas
+pub mod DataLemmas
+pub mod TreeLemmas
+pub mod OrderLemmas
+pub mod StepLemmas

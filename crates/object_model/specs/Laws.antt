@@ -47,7 +47,7 @@ ListsNewGroup = (s : Stack) (t new : Plain) (p : List Name) (r : Reply) (ls : Pl
 
 -- a link more: its name leads to what was linked, and each other name to what it led to
 abbrev pub FindsInserted : Type 0
-FindsInserted = (ls : PlainLinks) (n q : Name) (u : Plain) → find ls n ≡ None → find (insert ls n u) n ≡ Some u
+FindsInserted = (ls : PlainLinks) (n : Name) (u : Plain) → find ls n ≡ None → find (insert ls n u) n ≡ Some u
 
 abbrev pub FindsOthers : Type 0
 FindsOthers = (ls : PlainLinks) (n q : Name) (u : Plain) → q ≢ n → find (insert ls n u) q ≡ find ls q

@@ -3,3 +3,4 @@ pub mod Boxes
 pub mod Data
 pub mod Step
 pub mod Laws
+pub mod Examples

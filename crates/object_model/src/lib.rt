@@ -3,7 +3,7 @@
 
 mod answer;
 mod command;
-mod laws;
+pub mod laws;
 mod path;
 
 pub use answer::{Answer, Code, LinkLine, Shown};
