@@ -1,0 +1,4 @@
+//! A store, a source, a sink and a clock in memory, each with a list of its calls that fail.
+#![tactic(auto)]
+
+mod arena;
