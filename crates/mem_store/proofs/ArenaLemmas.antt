@@ -100,3 +100,10 @@ overwritten s at n len b b1 p within size is =
     (λ j. take (s + at) (is j) ++ p ++ drop (s + at + n) (is j))
     ∙ cover_in s at n (take s b) (resized (max len (at + n)) (take len (drop s b))) (drop (s + len) b) p front (omega (arith, whole))
     ∙ ap (λ (l : List ℕ). take s b ++ l ++ drop (s + len) b) (written_in at n len (take len (drop s b)) p part size)
+
+pub length-written : (at : ℕ) (p c : List ℕ) → length (written at p c) ≡ max (length c) (at + length p)
+length-written at p c =
+    omega (arith, length-append (resized at c ++ p) (drop (at + length p) c), length-append (resized at c) p, resized_length at c, length-drop (at + length p) c)
+
+pub written_size : (m at s len : ℕ) (b p : List ℕ) → s + len ≤ length b → m ≡ max len (at + length p) → m ≡ length (written at p (take len (drop s b)))
+written_size m at s len b p within is = omega (arith, length-written at p (take len (drop s b)), part_length s len b within)

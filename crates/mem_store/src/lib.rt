@@ -2,3 +2,8 @@
 #![tactic(auto)]
 
 mod arena;
+mod find;
+mod table;
+mod tally;
+
+pub use table::{Op, Tally};
