@@ -3,7 +3,11 @@
 
 mod arena;
 mod find;
+mod given;
+mod memory;
 mod table;
 mod tally;
 
+pub use given::{Fail, NamedBytes, Room};
+pub use memory::MemStore;
 pub use table::{Op, Tally};

@@ -171,4 +171,18 @@ impl Table {
     {
         self.entries[i].made = self.entries[i].made.with(op);
     }
+
+    pub fn name(&self, i: usize) -> &Name
+        requires { i < length self.now.entries.items }
+        ensures { result.now ≡ slice_index_or (names_of self.now.entries.items) i [] }
+    {
+        &self.entries[i].name
+    }
+
+    pub fn tally(&self, i: usize) -> Tally
+        requires { i < length self.now.entries.items }
+        ensures { result ≡ slice_index_or (tallies_of self.now.entries.items) i no_calls }
+    {
+        self.entries[i].made
+    }
 }

@@ -1,0 +1,134 @@
+-- What a store in memory holds, by id, what it tells of it, when a call fails, and what each call leaves.
+-- Cited by the clauses of `MemStore`.
+use Rattle.std.specs.Prelude.{◌≡◌, ◌⊎◌, ◌↔◌, ℕ, ◌+◌, ◌<◌, ◌≤◌, List, [], ◌∷◌, ◌++◌, length, slice_set, slice_index, slice_index_or, true, Option, Some, None, Any, Result, IsErr, OnOk, OnErr}
+use Rattle.std.specs.List.{sum_by, range_with_len}
+use Rattle.outside.specs.Files.{written, resized}
+use Rattle.outside.specs.Store.{View}
+use Rattle.mem_store.specs.declared.given.Fail.{Fail}
+use Rattle.mem_store.specs.declared.given.Room.{Room}
+use Rattle.mem_store.specs.declared.table.Op.{Op}
+use Rattle.mem_store.specs.declared.table.Op.TheVariants.{Write, SetLen}
+use Rattle.mem_store.specs.declared.table.Tally.{Tally}
+use Rattle.mem_store.specs.Table.{place_of, AreDistinct, AreNames, raised, made, tallied, no_calls}
+
+-- The files by id, with the faults and the calls of each; the faults of `file`; all calls and all bytes written
+-- so far; and what it was made with. An id is a place in the lists.
+pub record Held : Type 0 where
+  pub names : List (List ℕ)
+  pub contents : List (List ℕ)
+  pub faults : List ℕ
+  pub tallies : List Tally
+  pub file_faults : ℕ
+  pub calls : ℕ
+  pub written : ℕ
+  pub fails : List Fail
+  pub room : Room
+
+-- the lists are of one length, and names differ
+pub record IsSound (h : Held) : Type 0 where
+  pub distinct : AreDistinct h.names
+  pub named : AreNames h.names
+  pub contents : length h.contents ≡ length h.names
+  pub faults : length h.faults ≡ length h.names
+
+-- the counts of a store: of `file`, and of each id
+abbrev pub counts_of : ℕ → List ℕ → Option ℕ → ℕ
+counts_of file_faults faults None = file_faults
+counts_of file_faults faults (Some i) = slice_index faults i
+
+-- the bytes of each file by its name
+abbrev pub file_of : List (List ℕ) → List (List ℕ) → List ℕ → List ℕ
+file_of names contents name = slice_index_or contents (place_of name names) []
+
+-- what it tells as a store
+unfoldable pub view : Held → View
+view h = record {
+  ids = range_with_len 0 (length h.names);
+  names = λ i. slice_index_or h.names i [];
+  counts = counts_of h.file_faults h.faults;
+  moment = h.calls;
+  honest = true;
+  files = file_of h.names h.contents;
+}
+
+-- the bytes of the file with this id
+abbrev pub content : ℕ → Held → List ℕ
+content i h = slice_index_or h.contents i []
+
+-- the files' lengths and all bytes written so far
+abbrev pub total : Held → ℕ
+total h = sum_by length h.contents + h.written
+
+-- the entry of the list is of this file, this kind of call and this number
+pub record IsAt (file : List ℕ) (kind : Op) (number : ℕ) (fail : Fail) : Type 0 where
+  pub name : fail.name ≡ file
+  pub op : fail.op ≡ kind
+  pub nth : fail.nth ≡ number
+
+-- the next call of this kind on this file is one of the list
+abbrev pub IsListed : Op → ℕ → Held → Type 0
+IsListed op i h = Any (IsAt (slice_index_or h.names i []) op (made op (slice_index_or h.tallies i no_calls) + 1)) h.fails
+
+-- the next call is past the room of calls
+abbrev pub IsLate : Held → Type 0
+IsLate h = h.room.calls ≤ h.calls
+
+-- this is past the room of bytes
+abbrev pub IsFull : Held → Type 0
+IsFull h = h.room.bytes < total h
+
+-- one more call on a file
+abbrev pub counted : Op → ℕ → Held → Held
+counted op i h = record h {
+  tallies = slice_set h.tallies i (tallied op (slice_index_or h.tallies i no_calls));
+  calls = raised h.calls;
+}
+
+-- one more fault of a file
+abbrev pub struck : ℕ → Held → Held
+struck i h = record h { faults = slice_set h.faults i (raised (slice_index h.faults i)) }
+
+-- a call on a file that fails changes nothing but the counts
+abbrev pub after_fault : Op → ℕ → Held → Held
+after_fault op i h = struck i (counted op i h)
+
+-- a file has these bytes
+abbrev pub put : ℕ → List ℕ → Held → Held
+put i bytes h = record h { contents = slice_set h.contents i bytes }
+
+abbrev pub after_write : ℕ → ℕ → List ℕ → Held → Held
+after_write i at bytes h = record (put i (written at bytes (content i h)) (counted Write i h)) { written = h.written + length bytes }
+
+abbrev pub after_set_len : ℕ → ℕ → Held → Held
+after_set_len i n h = put i (resized n (content i h)) (counted SetLen i h)
+
+-- one more call of `file`
+abbrev pub asked : Held → Held
+asked h = record h { calls = raised h.calls }
+
+-- and it fails
+abbrev pub after_file_fault : Held → Held
+after_file_fault h = record (asked h) { file_faults = raised h.file_faults }
+
+-- a new empty file
+abbrev pub added : List ℕ → Held → Held
+added name h = record h {
+  names = h.names ++ name ∷ [];
+  contents = h.contents ++ [] ∷ [];
+  faults = h.faults ++ 0 ∷ [];
+  tallies = h.tallies ++ no_calls ∷ [];
+}
+
+-- A call fails just for these causes, and leaves this where it is done and that where it fails.
+pub record Answers {T E : Type 0} (Fails : Type 0) (done failed new : Held) (result : Result T E) : Type 0 where
+  pub cause : IsErr result ↔ Fails
+  pub ok : OnOk result (new ≡ done)
+  pub err : OnErr result (new ≡ failed)
+
+-- a call that only reads: it fails where it is listed or late
+abbrev pub Looks : {T E : Type 0} → Op → ℕ → Held → Held → Result T E → Type 0
+Looks op i old new result = Answers (IsListed op i old ⊎ IsLate old) (counted op i old) (after_fault op i old) new result
+
+-- a call that changes a file: also where what it would leave is past the room of bytes
+abbrev pub Changes : {T E : Type 0} → Op → ℕ → Held → Held → Held → Result T E → Type 0
+Changes op i old done new result = Answers ((IsListed op i old ⊎ IsLate old) ⊎ IsFull done) done (after_fault op i old) new result
