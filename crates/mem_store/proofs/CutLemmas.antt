@@ -2,6 +2,7 @@
 use Rattle.std.proofs.Common.{◌≡◌, ℕ, zero, suc, ◌+◌, ◌-◌, ◌<◌, ◌≤◌, min, List, [], ◌∷◌, ◌++◌, length, map, take, drop, sum, get_or, set, refl, sym, ◌∙◌, ap, arith, length-append, append_assoc, add-zero}
 use Rattle.std.proofs.lemmas.List.{drop-drop, drop-take, take-take, take-append-le, drop-append-le, length-take, length-drop, take_at, drop_at, take-map, length-map, map-append}
 use Rattle.std.proofs.lemmas.List.Sums.{sum_by-cons, sum_by_more_le, sum_by-set, sum_by-append}
+use Rattle.std.specs.List.{sum_by}
 use Rattle.mem_store.specs.Table.{cut}
 
 pub length-cut : (lens b : List ℕ) → length (cut lens b) ≡ length lens
@@ -62,3 +63,15 @@ cut-set (n ∷ lens) b (suc i) x lt fits =
     ap (λ (k : ℕ). cut (n ∷ set lens i (length x)) (take k b ++ x ++ drop (k + get_or lens i 0) b)) start
     ∙ (λ j. head j ∷ cut (set lens i (length x)) (rest j))
     ∙ ap (λ (l : List (List ℕ)). take n b ∷ l) (cut-set lens (drop n b) i x (omega arith) (omega (arith, length-drop n b, sum-cons n lens)))
+
+-- the pieces are as long as all of it
+pub sum_by-cut : (lens b : List ℕ) → sum lens ≤ length b → sum_by length (cut lens b) ≡ sum lens
+sum_by-cut [] b fits = refl
+sum_by-cut (n ∷ lens) b fits =
+    let front : length (take n b) ≡ n = omega (arith, length-take n b, sum-cons n lens) in
+    let rest : sum_by length (cut lens (drop n b)) ≡ sum lens = sum_by-cut lens (drop n b) (omega (arith, length-drop n b, sum-cons n lens)) in
+    sum_by-cons (length {A = ℕ}) (take n b) (cut lens (drop n b)) ∙ (λ j. front j + rest j) ∙ sym (sum-cons n lens)
+
+pub length-piece : (lens b : List ℕ) (i : ℕ) → i < length lens → sum lens ≤ length b → length (get_or (cut lens b) i []) ≡ get_or lens i 0
+length-piece lens b i lt fits =
+    ap length (get_or-cut lens b i lt) ∙ omega (arith, length-take (get_or lens i 0) (drop (sum (take i lens)) b), length-drop (sum (take i lens)) b, sum_part lens i lt)

@@ -1,3 +1,5 @@
 pub mod ArenaLemmas
 pub mod TableLemmas
 pub mod CutLemmas
+pub mod HeldLemmas
+pub mod ViewLemmas

@@ -9,7 +9,7 @@ use Rattle.std.proofs.Math.ListN.{get_or-append}
 use Rattle.std.proofs.Math.Seq.{map-set_same, get_or-append_seam}
 use Rattle.mem_store.specs.declared.table.Entry.{Entry}
 use Rattle.mem_store.specs.Table.{names_of, lens_of, contents_of, cut, place_of, AreDistinct, AreNames}
-use Rattle.mem_store.proofs.CutLemmas.{cut-set, get_or-cut, cut-append-zero, sum-append-zero, sum-set, sum_part}
+use Rattle.mem_store.proofs.CutLemmas.{length-cut, cut-set, get_or-cut, cut-append-zero, sum-append-zero, sum-set, sum_part}
 use Rattle.std.proofs.lemmas.List.{set-get_or, length-take, length-drop}
 
 pub ruleset table_steps = (map-set, map-set_same)
@@ -146,3 +146,6 @@ added true es later e n is distinct named full absent some empty =
     ap sum lens ∙ sum-append-zero (lens_of es) ∙ full)
 added false es later e n is distinct named full absent some empty =
     (subst AreDistinct (sym (ap names_of is)) distinct, subst AreNames (sym (ap names_of is)) named, ap (λ (l : List Entry). sum (lens_of l)) is ∙ full)
+
+pub contents_within : (es : List Entry) (b : List ℕ) (i : ℕ) → i < length (names_of es) → i < length (contents_of es b)
+contents_within es b i lt = omega (arith, length-cut (lens_of es) b, length-map es (λ (e : Entry). e.len), length-map es (λ (e : Entry). e.name))

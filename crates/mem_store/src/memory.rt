@@ -23,6 +23,17 @@ pub struct MemStore {
     ghost ready: { room.bytes ≤ vec_capacity table.bytes },
 }
 
+// Copies what stands from an offset on, as much as there is room for.
+fn copy_from(bytes: &[u8], at: usize, out: &mut [u8]) -> usize
+    ensures count { result ≤ length out.old }
+    ensures bytes { take result out.new ≡ take (length out.old) (drop at bytes.now) }
+{
+    let from = at.min(bytes.len());
+    let n = out.len().min(bytes.len() - from);
+    out[..n].copy_from_slice(&bytes[from..from + n]);
+    n
+}
+
 fn is_at(fail: &Fail, name: &Name, op: Op, before: u64) -> bool
     ensures { IsTrue result ↔ IsAt name.now op (before + 1) fail.now }
 {
@@ -42,6 +53,8 @@ impl MemStore {
     ghost use Rattle.mem_store.specs.Memory.{held};
     ghost use Rattle.mem_store.specs.Held.{IsListed, IsLate, IsFull, counted, struck, after_fault, after_write, after_set_len, asked, after_file_fault, added, content, Looks, Changes};
     ghost use Rattle.std.specs.List.{sum_by};
+    ghost use Rattle.std.specs.Prelude.{false};
+    ghost use Rattle.mem_store.specs.Table.{lens_of, place_of};
 
     // Counts a call on a file, and tells whether it is one of the list or past the room of calls.
     fn strikes(&mut self, i: usize, op: Op) -> bool
@@ -62,5 +75,123 @@ impl MemStore {
     {
         self.table.count_fault(i);
         Failed
+    }
+
+    // Whether the room of bytes is passed where a file has `len` bytes and `more` were written.
+    fn is_full_with(&self, i: usize, len: u64, more: u64) -> bool
+        requires { i < length (held self.now).names }
+        ensures full { IsTrue result ↔ (self.now.room.bytes < sum_by length (held self.now).contents - length (content i (held self.now)) + len + (self.now.written + more)) }
+        ensures fits { result ≡ false → length self.now.table.bytes.items - slice_index (lens_of self.now.table.entries.items) i + len ≤ self.now.room.bytes }
+    {
+        let others = self.table.total() - self.table.len_at(i);
+        let after = others as u128 + len as u128 + (self.written as u128 + more as u128);
+        after > self.room.bytes as u128
+    }
+
+    // Counts a call after which a file would have `len` bytes and `more` would be written, and tells whether it
+    // fails.
+    fn fails_with(&mut self, i: usize, op: Op, len: u64, more: u64) -> bool
+        requires { i < length (held self.old).names }
+        ensures told { IsTrue result ↔ ((IsListed op i (held self.old) ⊎ IsLate (held self.old))
+            ⊎ ((held self.old).room.bytes < sum_by length (held self.old).contents - length (content i (held self.old)) + len + ((held self.old).written + more))) }
+        ensures counted { held self.new ≡ counted op i (held self.old) }
+        ensures entry { slice_index (lens_of self.new.table.entries.items) i ≡ length (content i (held self.old)) }
+        ensures fits { result ≡ false → length self.new.table.bytes.items - slice_index (lens_of self.new.table.entries.items) i + len ≤ self.new.room.bytes }
+        ensures written { result ≡ false → self.new.written + more < 2 ^ 64 }
+    {
+        let strikes = self.strikes(i, op);
+        let _entry = self.table.len_at(i);
+        let full = self.is_full_with(i, len, more);
+        strikes || full
+    }
+
+    fn len_of(&mut self, i: usize) -> Result<u64, Failed>
+        requires { i < length (held self.old).names }
+        ensures len { IfOk result (λ n. n ≡ length (content i (held self.old))) }
+        ensures exact { Looks Op.Len i (held self.old) (held self.new) result }
+    {
+        if self.strikes(i, Op::Len) {
+            return Err(self.fault(i));
+        }
+        Ok(self.table.len_at(i) as u64)
+    }
+
+    fn read_at(&mut self, i: usize, at: usize, out: &mut [u8]) -> Result<usize, Failed>
+        requires { i < length (held self.old).names }
+        ensures count { IfOk result (λ n. n ≤ length out.old) }
+        ensures bytes { IfOk result (λ n. take n out.new ≡ take (length out.old) (drop at (content i (held self.old)))) }
+        ensures exact { Looks Op.Read i (held self.old) (held self.new) result }
+    {
+        if self.strikes(i, Op::Read) {
+            return Err(self.fault(i));
+        }
+        Ok(copy_from(self.table.bytes_at(i), at, out))
+    }
+
+    fn write_at(&mut self, i: usize, at: u64, piece: &[u8]) -> Result<(), Failed>
+        requires within { i < length (held self.old).names }
+        requires fits { at + length piece.now ≤ 2 ^ 49 }
+        ensures { Changes Op.Write i (held self.old) (after_write i at piece.now (held self.old)) (held self.new) result }
+    {
+        let more = piece.len() as u64;
+        let len = (self.table.len_at(i) as u64).max(at + more);
+        if self.fails_with(i, Op::Write, len, more) {
+            return Err(self.fault(i));
+        }
+        self.table.write(i, at as usize, piece);
+        self.written += more;
+        Ok(())
+    }
+
+    fn resize(&mut self, i: usize, n: u64) -> Result<(), Failed>
+        requires within { i < length (held self.old).names }
+        ensures { Changes Op.SetLen i (held self.old) (after_set_len i n (held self.old)) (held self.new) result }
+    {
+        if self.fails_with(i, Op::SetLen, n, 0) {
+            return Err(self.fault(i));
+        }
+        self.table.set_len(i, n as usize);
+        Ok(())
+    }
+
+    fn flush(&mut self, i: usize) -> Result<(), Failed>
+        requires { i < length (held self.old).names }
+        ensures { Looks Op.Sync i (held self.old) (held self.new) result }
+    {
+        if self.strikes(i, Op::Sync) {
+            return Err(self.fault(i));
+        }
+        Ok(())
+    }
+
+    fn ask(&mut self, name: &Name) -> Result<FileId, FileStop>
+        ensures named { 0 < length name.now }
+        ensures id { IfOk result (λ id. id.n ≡ place_of name.now (held self.old).names) }
+        ensures known { OnOk result (place_of name.now (held self.old).names < length (held self.old).names → held self.new ≡ asked (held self.old)) }
+        ensures new { OnOk result (place_of name.now (held self.old).names ≡ length (held self.old).names → held self.new ≡ added name.now (asked (held self.old))) }
+        ensures late { (result ≡ Err FileStop.Failed) ↔ IsLate (held self.old) }
+        ensures failed { result ≡ Err FileStop.Failed → held self.new ≡ after_file_fault (held self.old) }
+        ensures no_memory { result ≡ Err FileStop.NoMemory → held self.new ≡ asked (held self.old) }
+    {
+        let _name = name.as_slice();
+        let late = self.room.calls <= self.calls;
+        self.calls = one_more(self.calls);
+        if late {
+            self.file_faults = one_more(self.file_faults);
+            return Err(FileStop::Failed);
+        }
+        match self.table.find(name) {
+            Some(i) => return Ok(FileId { n: i as u64 }),
+            None => {}
+        }
+        let n = self.table.len() as u64;
+        let own = match Name::from_slice(self.alloc, name.as_slice()) {
+            Ok(own) => own,
+            Err(_) => return Err(FileStop::NoMemory),
+        };
+        match self.table.add(own) {
+            Ok(()) => Ok(FileId { n }),
+            Err(_) => Err(FileStop::NoMemory),
+        }
     }
 }

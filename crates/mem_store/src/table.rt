@@ -1,4 +1,5 @@
 ghost use Rattle.std.specs.Prelude.{◌≡◌, ◌+◌, ◌-◌, ◌<◌, ◌≤◌, ◌^◌, ◌∷◌, ◌++◌, max, ℕ, List, [], length, take, drop, sum, slice_set, slice_index, slice_index_or, OnOk, OnErr, MatchOption, vec_capacity};
+ghost use Rattle.std.specs.List.{sum_by};
 ghost use Rattle.outside.specs.Files.{written, resized};
 ghost use Rattle.mem_store.specs.Table.{names_of, lens_of, faults_of, tallies_of, contents_of, place_of, AreDistinct, AreNames, raised, made, tallied, no_calls};
 
@@ -184,5 +185,24 @@ impl Table {
         ensures { result ≡ slice_index_or (tallies_of self.now.entries.items) i no_calls }
     {
         self.entries[i].made
+    }
+
+    /// The length of a file.
+    pub fn len_at(&self, i: usize) -> usize
+        requires { i < length self.now.entries.items }
+        ensures len { result ≡ length (slice_index_or (contents_of self.now.entries.items self.now.bytes.items) i []) }
+        ensures entry { result ≡ slice_index (lens_of self.now.entries.items) i }
+        ensures within { result ≤ length self.now.bytes.items }
+    {
+        let start = self.start(i);
+        self.entries[i].len
+    }
+
+    /// The files' lengths together.
+    pub fn total(&self) -> usize
+        ensures sum { result ≡ sum_by length (contents_of self.now.entries.items self.now.bytes.items) }
+        ensures all { result ≡ length self.now.bytes.items }
+    {
+        self.bytes.len()
     }
 }
