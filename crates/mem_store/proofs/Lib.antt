@@ -3,3 +3,4 @@ pub mod TableLemmas
 pub mod CutLemmas
 pub mod HeldLemmas
 pub mod ViewLemmas
+pub mod MemoryLemmas

@@ -9,7 +9,8 @@ use Rattle.outside.specs.Files.{WrittenInPart, ResizedInPart, written, resized}
 use Rattle.outside.specs.Store.{View, Calls, Gives, SameIds}
 use Rattle.std.proofs.Math.ListN.{get_or-append}
 use Rattle.std.proofs.Math.Seq.{get_or-append_seam}
-use Rattle.std.proofs.lemmas.List.{get_or_past}
+use Rattle.std.proofs.lemmas.List.{get_or_past, same_lists, get_or_append_left, get_or_push}
+use Rattle.std.proofs.lemmas.List.FromFn.{length-range_with_len, get_or-range_with_len}
 use Rattle.mem_store.specs.declared.table.Op.{Op}
 use Rattle.mem_store.specs.Table.{place_of, AreDistinct, raised}
 use Rattle.mem_store.specs.Held.{Held, IsSound, view, counts_of, file_of, content, counted, struck, after_fault, put, asked, added, after_file_fault, Answers, Looks, Changes}
@@ -165,6 +166,144 @@ pub resized_in_part : {T E : Type 0} (n : ℕ) (f g : List ℕ) (r : Result T E)
 resized_in_part n f g (Ok x) same = tt
 resized_in_part n f g (Err e) same = resized_none n f g same
 
-pub on_ok : {T E : Type 0} (f g x y : List ℕ) (r : Result T E) → x ≡ y → OnOk r (f ≡ x) → OnOk r (f ≡ y)
-on_ok f g x y (Ok v) is same = same ∙ is
-on_ok f g x y (Err e) is same = tt
+pub on_ok : {T E : Type 0} (f x y : List ℕ) (r : Result T E) → x ≡ y → OnOk r (f ≡ x) → OnOk r (f ≡ y)
+on_ok f x y (Ok v) is same = same ∙ is
+on_ok f x y (Err e) is same = tt
+
+-- what `file` leaves
+pub place_of-le : (q : List ℕ) (names : List (List ℕ)) → place_of q names ≤ length names
+place_of-le q [] = omega arith
+place_of-le q (n ∷ names) = elim (bytes_same q n) [
+  | inl same ↦ rw same.0 (omega arith)
+  | inr other ↦ rw other.0 (omega (arith, place_of-le q names))
+]
+
+asked_call : (Failed : Type 0) (h : Held) → (Failed → ⊥) → Calls true None Failed (λ _. ⊥) (view h) (view (asked h))
+unfolding view
+asked_call Failed h fine = record {
+  later = λ k. omega arith;
+  failed = λ f. absurd (fine f);
+  counts = λ k other. refl;
+  moment = raised-later h.calls;
+  honest = refl;
+  others = λ told q other. refl;
+}
+
+file_fault_call : (Failed : Type 0) (h : Held) → Calls true None Failed (λ _. ⊥) (view h) (view (after_file_fault h))
+unfolding view
+file_fault_call Failed h = record {
+  later = later;
+  failed = λ f. raised-rose h.file_faults;
+  counts = others;
+  moment = raised-later h.calls;
+  honest = refl;
+  others = λ told q other. refl;
+}
+  where
+    later : (k : Option ℕ) → counts_of h.file_faults h.faults k ≤ counts_of (raised h.file_faults) h.faults k
+    later None = raised-later h.file_faults
+    later (Some k) = omega arith
+
+    others : (k : Option ℕ) → k ≢ None → counts_of (raised h.file_faults) h.faults k ≡ counts_of h.file_faults h.faults k
+    others None other = absurd (other refl)
+    others (Some k) other = refl
+
+added_call : (Failed : Type 0) (name : List ℕ) (h : Held) → (Failed → ⊥) → IsSound h → place_of name h.names ≡ length h.names → Calls true None Failed (λ _. ⊥) (view h) (view (added name (asked h)))
+unfolding view
+added_call Failed name h fine sound absent = record {
+  later = λ k. omega (arith, same k);
+  failed = λ f. absurd (fine f);
+  counts = λ k other. same k;
+  moment = raised-later h.calls;
+  honest = refl;
+  others = λ told q other. files q;
+}
+  where
+    same : (k : Option ℕ) → counts_of h.file_faults (h.faults ++ 0 ∷ []) k ≡ counts_of h.file_faults h.faults k
+    same None = refl
+    same (Some k) = last_default h.faults k 0
+
+    files : (q : List ℕ) → file_of (h.names ++ name ∷ []) (h.contents ++ [] ∷ []) q ≡ file_of h.names h.contents q
+    files q = elim (cases_lt (place_of q h.names) (length h.names)) [
+      | inl lt ↦ last_default h.contents (place_of q (h.names ++ name ∷ [])) [] ∙ ap (λ (k : ℕ). get_or h.contents k []) (place_of-append_left q h.names (name ∷ []) lt)
+      | inr past ↦
+          last_default h.contents (place_of q (h.names ++ name ∷ [])) []
+          ∙ get_or_past h.contents (place_of q (h.names ++ name ∷ [])) [] (omega (arith, place_of-append_ge q h.names (name ∷ []) past, sound.contents))
+          ∙ sym (get_or_past h.contents (place_of q h.names) [] (omega (arith, sound.contents)))
+    ]
+
+gives_again : (name : List ℕ) (i : ℕ) (h : Held) → IsSound h → 0 < length name → place_of name h.names < length h.names → i ≡ place_of name h.names → Gives name i (view h) (view (asked h))
+unfolding view
+gives_again name i h sound some lt place = record {
+  named = named;
+  again = λ k is.
+      let given : 0 < length (get_or h.names k []) = omega (arith, ap length is) in
+      sym (sound.distinct k (within h k given)) ∙ ap (λ (n : List ℕ). place_of n h.names) is ∙ sym place;
+  others = λ k other. refl;
+  was = λ given. named;
+  ids = inl refl;
+}
+  where
+    named : get_or h.names i [] ≡ name
+    named = ap (λ (k : ℕ). get_or h.names k []) place ∙ placed h.names name lt
+
+range_push : (names : List (List ℕ)) (name : List ℕ) → range_with_len 0 (length (names ++ name ∷ [])) ≡ range_with_len 0 (length names) ++ length names ∷ []
+range_push names name =
+    same_lists _ _ (size ∙ sym total) (λ k d lt. elim (cases_lt k (length names)) [
+      | inl below ↦
+          get_or-range_with_len 0 (length (names ++ name ∷ [])) k d (omega (arith, length-append names (name ∷ [])))
+          ∙ sym (get_or_append_left (range_with_len 0 (length names)) (length names ∷ []) d k (omega (arith, length-range_with_len 0 (length names))) ∙ get_or-range_with_len 0 (length names) k d below)
+      | inr past ↦
+          let last : k ≡ length names = omega (arith, size, length-append names (name ∷ [])) in
+          get_or-range_with_len 0 (length (names ++ name ∷ [])) k d (omega (arith, length-append names (name ∷ [])))
+          ∙ ap (λ (n : ℕ). 0 + n) last ∙ omega arith
+          ∙ sym (get_or_push (range_with_len 0 (length names)) (length names) d k (length-range_with_len 0 (length names) ∙ sym last))
+    ])
+  where
+    size : length (range_with_len 0 (length (names ++ name ∷ []))) ≡ length (names ++ name ∷ [])
+    size = length-range_with_len 0 (length (names ++ name ∷ []))
+
+    total : length (range_with_len 0 (length names) ++ length names ∷ []) ≡ length (names ++ name ∷ [])
+    total = omega (arith, length-append (range_with_len 0 (length names)) (length names ∷ []), length-range_with_len 0 (length names), length-append names (name ∷ []))
+
+gives_new : (name : List ℕ) (i : ℕ) (h : Held) → IsSound h → 0 < length name → place_of name h.names ≡ length h.names → i ≡ length h.names → Gives name i (view h) (view (added name (asked h)))
+unfolding view
+gives_new name i h sound some absent last = record {
+  named = ap (λ (k : ℕ). get_or (h.names ++ name ∷ []) k []) last ∙ get_or-append_seam h.names name [] [];
+  again = λ k is.
+      let given : 0 < length (get_or h.names k []) = omega (arith, ap length is) in
+      sym (sound.distinct k (within h k given)) ∙ ap (λ (n : List ℕ). place_of n h.names) is ∙ absent ∙ sym last;
+  others = λ k other. elim (cases_lt k (length h.names)) [
+    | inl lt ↦ get_or-append h.names (name ∷ []) [] k lt
+    | inr past ↦ get_or_past (h.names ++ name ∷ []) k [] (omega (arith, length-append h.names (name ∷ []))) ∙ sym (get_or_past h.names k [] past)
+  ];
+  was = λ given. absurd (omega (arith, within h i given));
+  ids = inr (range_push h.names name ∙ ap (λ (k : ℕ). range_with_len 0 (length h.names) ++ k ∷ []) (sym last));
+}
+
+pub gives : (name : List ℕ) (i : ℕ) (a b : Held) → IsSound a → 0 < length name → i ≡ place_of name a.names
+    → (place_of name a.names < length a.names → b ≡ asked a) → (place_of name a.names ≡ length a.names → b ≡ added name (asked a)) → Gives name i (view a) (view b)
+gives name i a b sound some place known new = elim (cases_lt (place_of name a.names) (length a.names)) [
+  | inl lt ↦ subst (λ (h : Held). Gives name i (view a) (view h)) (sym (known lt)) (gives_again name i a sound some lt place)
+  | inr past ↦
+      let absent : place_of name a.names ≡ length a.names = omega (arith, place_of-le name a.names) in
+      subst (λ (h : Held). Gives name i (view a) (view h)) (sym (new absent)) (gives_new name i a sound some absent (place ∙ absent))
+]
+
+pub file_call_ok : (Failed : Type 0) (name : List ℕ) (a b : Held) → (Failed → ⊥) → IsSound a
+    → (place_of name a.names < length a.names → b ≡ asked a) → (place_of name a.names ≡ length a.names → b ≡ added name (asked a)) → Calls true None Failed (λ _. ⊥) (view a) (view b)
+file_call_ok Failed name a b fine sound known new = elim (cases_lt (place_of name a.names) (length a.names)) [
+  | inl lt ↦ subst (λ (h : Held). Calls true None Failed (λ _. ⊥) (view a) (view h)) (sym (known lt)) (asked_call Failed a fine)
+  | inr past ↦
+      let absent : place_of name a.names ≡ length a.names = omega (arith, place_of-le name a.names) in
+      subst (λ (h : Held). Calls true None Failed (λ _. ⊥) (view a) (view h)) (sym (new absent)) (added_call Failed name a fine sound absent)
+]
+
+pub file_call_failed : (Failed : Type 0) (a b : Held) → b ≡ after_file_fault a → Calls true None Failed (λ _. ⊥) (view a) (view b)
+file_call_failed Failed a b is = subst (λ (h : Held). Calls true None Failed (λ _. ⊥) (view a) (view h)) (sym is) (file_fault_call Failed a)
+
+pub file_call_none : (Failed : Type 0) (a b : Held) → (Failed → ⊥) → b ≡ asked a → Calls true None Failed (λ _. ⊥) (view a) (view b)
+file_call_none Failed a b fine is = subst (λ (h : Held). Calls true None Failed (λ _. ⊥) (view a) (view h)) (sym is) (asked_call Failed a fine)
+
+pub same_ids : (a b : Held) → b.names ≡ a.names → SameIds (view a) (view b)
+same_ids a b is = record { names = names_same a b is; ids = ids_same a b is }

@@ -195,3 +195,53 @@ impl MemStore {
         }
     }
 }
+
+impl Store for MemStore {
+    ghost use Rattle.std.specs.Prelude.{true, false};
+    ghost use Rattle.std.proofs.lemmas.Bool.{false≢true};
+    ghost use Rattle.mem_store.specs.Memory.{held};
+    ghost use Rattle.mem_store.specs.Held.{view as view_of};
+    ghost use Rattle.mem_store.specs.Laws.{are_ids, length-faults_of};
+
+    ghost tells_files = { true };
+
+    ghost tells_images = { false };
+
+    ghost view = { λ m. view_of (held m) };
+
+    ghost leaves = { λ _ _. ⊥ };
+
+    ghost past = { λ _ _. ⊥ };
+
+    ghost ids_stand = { λ m. are_ids (held m) m.table.named (length-faults_of m.table.entries.items) };
+
+    ghost reads_now = { λ told. absurd (false≢true told) };
+
+    ghost counts_now = { λ told. absurd (false≢true told) };
+
+    ghost only_now = { λ told. absurd (false≢true told) };
+
+    fn file(&mut self, name: &Name) -> Result<FileId, FileStop> {
+        self.ask(name)
+    }
+
+    fn len(&mut self, id: FileId) -> Result<u64, Failed> {
+        self.len_of(id.n as usize)
+    }
+
+    fn read(&mut self, id: FileId, at: u64, out: &mut [u8]) -> Result<usize, Failed> {
+        self.read_at(id.n as usize, at as usize, out)
+    }
+
+    fn write(&mut self, id: FileId, at: u64, bytes: &[u8]) -> Result<(), Failed> {
+        self.write_at(id.n as usize, at, bytes)
+    }
+
+    fn set_len(&mut self, id: FileId, n: u64) -> Result<(), Failed> {
+        self.resize(id.n as usize, n)
+    }
+
+    fn sync(&mut self, id: FileId) -> Result<(), Failed> {
+        self.flush(id.n as usize)
+    }
+}
