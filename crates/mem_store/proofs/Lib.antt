@@ -4,3 +4,4 @@ pub mod CutLemmas
 pub mod HeldLemmas
 pub mod ViewLemmas
 pub mod MemoryLemmas
+pub mod FilesLemmas

@@ -54,7 +54,7 @@ place_of-append_left q (x ∷ xs) ys lt = elim (bytes_same q x) [
       rw other.0 (ap suc (place_of-append_left q xs ys lt'))
 ]
 
-place_of-append_new : (q : List ℕ) (xs : List (List ℕ)) → place_of q xs ≡ length xs → place_of q (xs ++ q ∷ []) ≡ length xs
+pub place_of-append_new : (q : List ℕ) (xs : List (List ℕ)) → place_of q xs ≡ length xs → place_of q (xs ++ q ∷ []) ≡ length xs
 place_of-append_new q [] absent = rw ((bytes_eq-Decides q q).1 refl) refl
 place_of-append_new q (x ∷ xs) absent = elim (bytes_same q x) [
   | inl same ↦ let here : 0 ≡ length (x ∷ xs) = rw same.0 at absent in absurd (omega arith)

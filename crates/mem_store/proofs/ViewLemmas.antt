@@ -23,7 +23,7 @@ pub raised-rose : (n : ℕ) → Rose n (raised n)
 raised-rose n = grind (arith, nat_tests)
 
 -- the default behind the end changes nothing
-last_default : {A : Type 0} (xs : List A) (i : ℕ) (d : A) → get_or (xs ++ d ∷ []) i d ≡ get_or xs i d
+pub last_default : {A : Type 0} (xs : List A) (i : ℕ) (d : A) → get_or (xs ++ d ∷ []) i d ≡ get_or xs i d
 last_default [] zero d = refl
 last_default [] (suc i) d = refl
 last_default (x ∷ xs) zero d = refl

@@ -1,10 +1,11 @@
 -- What a store in memory holds, by id, what it tells of it, when a call fails, and what each call leaves.
 -- Cited by the clauses of `MemStore`.
-use Rattle.std.specs.Prelude.{◌≡◌, ◌⊎◌, ◌↔◌, ℕ, ◌+◌, ◌<◌, ◌≤◌, List, [], ◌∷◌, ◌++◌, length, slice_set, slice_index, slice_index_or, true, Option, Some, None, Any, Result, IsErr, OnOk, OnErr}
+use Rattle.std.specs.Prelude.{◌≡◌, ◌⊎◌, ◌↔◌, ℕ, ◌+◌, ◌<◌, ◌≤◌, List, [], ◌∷◌, ◌++◌, length, map, slice_set, slice_index, slice_index_or, true, Option, Some, None, Any, Result, IsErr, OnOk, OnErr}
 use Rattle.std.specs.List.{sum_by, range_with_len}
 use Rattle.outside.specs.Files.{written, resized}
 use Rattle.outside.specs.Store.{View}
 use Rattle.mem_store.specs.declared.given.Fail.{Fail}
+use Rattle.mem_store.specs.declared.given.NamedBytes.{NamedBytes}
 use Rattle.mem_store.specs.declared.given.Room.{Room}
 use Rattle.mem_store.specs.declared.table.Op.{Op}
 use Rattle.mem_store.specs.declared.table.Op.TheVariants.{Write, SetLen}
@@ -39,6 +40,10 @@ counts_of file_faults faults (Some i) = slice_index faults i
 -- the bytes of each file by its name
 abbrev pub file_of : List (List ℕ) → List (List ℕ) → List ℕ → List ℕ
 file_of names contents name = slice_index_or contents (place_of name names) []
+
+-- the faults of the file with a name, 0 where there is none
+abbrev pub faults_at : List ℕ → Held → ℕ
+faults_at name h = slice_index h.faults (place_of name h.names)
 
 -- what it tells as a store
 unfoldable pub view : Held → View
@@ -132,3 +137,14 @@ Looks op i old new result = Answers (IsListed op i old ⊎ IsLate old) (counted 
 -- a call that changes a file: also where what it would leave is past the room of bytes
 abbrev pub Changes : {T E : Type 0} → Op → ℕ → Held → Held → Held → Result T E → Type 0
 Changes op i old done new result = Answers ((IsListed op i old ⊎ IsLate old) ⊎ IsFull done) done (after_fault op i old) new result
+
+-- the bytes of the first file with a name, none where there is none
+abbrev pub first_bytes : List NamedBytes → List ℕ → List ℕ
+first_bytes files = file_of (map (λ f. f.name) files) (map (λ f. f.bytes) files)
+
+-- no call was made
+pub record IsNew (h : Held) : Type 0 where
+  pub faults : (k : Option ℕ) → counts_of h.file_faults h.faults k ≡ 0
+  pub made : (i : ℕ) → slice_index_or h.tallies i no_calls ≡ no_calls
+  pub calls : h.calls ≡ 0
+  pub written : h.written ≡ 0

@@ -1,4 +1,5 @@
 pub mod Held
 pub mod Laws
 pub mod Memory
+pub mod Ports
 pub mod Table

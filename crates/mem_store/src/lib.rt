@@ -2,12 +2,19 @@
 #![tactic(auto)]
 
 mod arena;
+mod clock;
 mod find;
 mod given;
 mod memory;
+mod numbered;
+mod sink;
+mod source;
 mod table;
 mod tally;
 
+pub use clock::ListClock;
 pub use given::{Fail, NamedBytes, Room};
 pub use memory::MemStore;
+pub use sink::VecSink;
+pub use source::VecSource;
 pub use table::{Op, Tally};

@@ -1,6 +1,7 @@
 ghost use Rattle.std.specs.Prelude.{◌≡◌, ◌≢◌, ◌+◌, ◌-◌, ◌<◌, ◌≤◌, ◌^◌, ◌⊎◌, ◌↔◌, ℕ, List, [], ◌∷◌, ◌++◌, length, take, drop, max, slice_index, slice_index_or, IfOk, OnOk, OnErr, IsTrue, Any, vec_capacity};
 ghost use Rattle.outside.specs.Files.{written, resized};
-ghost use Rattle.mem_store.specs.Held.{IsAt};
+ghost use Rattle.mem_store.specs.Table.{names_of, contents_of, tallies_of, faults_of, no_calls};
+ghost use Rattle.mem_store.specs.Held.{IsAt, file_of, first_bytes};
 
 use crate::given::{Fail, NamedBytes, Room};
 use crate::table::{Op, Table};
@@ -49,12 +50,81 @@ fn is_listed(fails: &[Fail], name: &Name, op: Op, before: u64) -> bool
     fails.iter().any(|fail| is_at(fail, name, op, before))
 }
 
+// The table of these files, each with its bytes, but of two with one name the first alone.
+fn table_of(alloc: Global, files: Vec<NamedBytes>) -> Result<Table, NoMemory>
+    ensures files { IfOk result (λ t. (q : List ℕ) → file_of (names_of t.entries.items) (contents_of t.entries.items t.bytes.items) q ≡ first_bytes files.items q) }
+    ensures faults { IfOk result (λ t. (i : ℕ) → slice_index (faults_of t.entries.items) i ≡ 0) }
+    ensures tallies { IfOk result (λ t. (i : ℕ) → slice_index_or (tallies_of t.entries.items) i no_calls ≡ no_calls) }
+{
+    let mut table = Table {
+        entries: Vec::new(alloc),
+        bytes: Vec::new(alloc),
+    };
+    for file in files {
+        match table.find(&file.name) {
+            Some(_) => {}
+            None => table.add_file(file.name, file.bytes.as_slice())?,
+        }
+    }
+    Ok(table)
+}
+
 impl MemStore {
     ghost use Rattle.mem_store.specs.Memory.{held};
-    ghost use Rattle.mem_store.specs.Held.{IsListed, IsLate, IsFull, counted, struck, after_fault, after_write, after_set_len, asked, after_file_fault, added, content, Looks, Changes};
+    ghost use Rattle.mem_store.specs.Held.{IsListed, IsLate, IsFull, counted, struck, after_fault, after_write, after_set_len, asked, after_file_fault, added, content, Looks, Changes, IsNew, view, faults_at};
     ghost use Rattle.std.specs.List.{sum_by};
-    ghost use Rattle.std.specs.Prelude.{false};
+    ghost use Rattle.std.specs.Prelude.{true, false, None, Option};
     ghost use Rattle.mem_store.specs.Table.{lens_of, place_of};
+
+    /// A store with these files, of two with one name the first, of which the calls listed fail, and those past the
+    /// room.
+    pub fn new(alloc: Global, files: Vec<NamedBytes>, fails: Vec<Fail>, room: Room) -> Result<MemStore, NoMemory>
+        ensures files { IfOk result (λ m. (q : List ℕ) → (view (held m)).files q ≡ first_bytes files.items q) }
+        ensures new { IfOk result (λ m. IsNew (held m)) }
+        ensures counts { IfOk result (λ m. (k : Option ℕ) → (view (held m)).counts k ≡ 0) }
+        ensures honest { IfOk result (λ m. (view (held m)).honest ≡ true) }
+        ensures fails { IfOk result (λ m. (held m).fails ≡ fails.items) }
+        ensures room { IfOk result (λ m. (held m).room ≡ room) }
+    {
+        let mut table = table_of(alloc, files)?;
+        table.reserve(room.bytes as usize)?;
+        Ok(MemStore {
+            alloc,
+            table,
+            file_faults: 0,
+            calls: 0,
+            written: 0,
+            fails,
+            room,
+        })
+    }
+
+    /// The bytes of a file, none where there is none.
+    pub fn bytes_of(&self, name: &Name) -> &[u8]
+        ensures { result.now ≡ (view (held self.now)).files name.now }
+    {
+        match self.table.find(name) {
+            Some(i) => self.table.bytes_at(i),
+            None => &[],
+        }
+    }
+
+    /// The faults of the calls on a file, 0 where there is none.
+    pub fn faults_of(&self, name: &Name) -> u64
+        ensures { result ≡ faults_at name.now (held self.now) }
+    {
+        match self.table.find(name) {
+            Some(i) => self.table.faults_at(i),
+            None => 0,
+        }
+    }
+
+    /// The faults of `file`.
+    pub fn file_faults(&self) -> u64
+        ensures { result ≡ (view (held self.now)).counts None }
+    {
+        self.file_faults
+    }
 
     // Counts a call on a file, and tells whether it is one of the list or past the room of calls.
     fn strikes(&mut self, i: usize, op: Op) -> bool

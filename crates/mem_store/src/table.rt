@@ -205,4 +205,46 @@ impl Table {
     {
         self.bytes.len()
     }
+
+    /// Takes memory for so many bytes in all.
+    pub fn reserve(&mut self, n: usize) -> Result<(), NoMemory>
+        ensures entries { self.new.entries ≡ self.old.entries }
+        ensures bytes { self.new.bytes.items ≡ self.old.bytes.items }
+        ensures ok { OnOk result (n ≤ vec_capacity self.new.bytes) }
+    {
+        let spare = n.saturating_sub(self.bytes.len());
+        match self.bytes.reserve(spare) {
+            Ok(()) => Ok(()),
+            Err(_) => Err(NoMemory),
+        }
+    }
+
+    /// A new file with these bytes.
+    pub fn add_file(&mut self, name: Name, bytes: &[u8]) -> Result<(), NoMemory>
+        requires absent { place_of name (names_of self.old.entries.items) ≡ length self.old.entries.items }
+        requires named { 0 < length name }
+        ensures names { OnOk result (names_of self.new.entries.items ≡ names_of self.old.entries.items ++ name ∷ []) }
+        ensures faults { OnOk result (faults_of self.new.entries.items ≡ faults_of self.old.entries.items ++ 0 ∷ []) }
+        ensures tallies { OnOk result (tallies_of self.new.entries.items ≡ tallies_of self.old.entries.items ++ no_calls ∷ []) }
+        ensures contents { OnOk result (contents_of self.new.entries.items self.new.bytes.items ≡ contents_of self.old.entries.items self.old.bytes.items ++ bytes.now ∷ []) }
+    {
+        let total = self.bytes.len();
+        let n = bytes.len();
+        if usize::MAX - n < total {
+            return Err(NoMemory);
+        }
+        self.reserve(total + n)?;
+        let i = self.len();
+        self.add(name)?;
+        self.write(i, 0, bytes);
+        Ok(())
+    }
+
+    /// The faults of a file.
+    pub fn faults_at(&self, i: usize) -> u64
+        requires { i < length self.now.entries.items }
+        ensures { result ≡ slice_index (faults_of self.now.entries.items) i }
+    {
+        self.entries[i].faults
+    }
 }

@@ -1,0 +1,59 @@
+ghost use Rattle.std.specs.Prelude.{◌≡◌, ◌↔◌, ◌⊎◌, ◌+◌, ℕ, List, IsTrue, Any, if◌then◌else◌, take, drop, length, ◌-◌, ◌≤◌, min};
+ghost use Rattle.mem_store.specs.Table.{raised};
+
+use crate::tally::one_more;
+
+/// The calls of an object, those of them that fail, by number from 1, and the faults so far.
+#[derive(Debug, Drop)]
+pub struct Calls {
+    pub made: u64,
+    pub fails: Vec<u64>,
+    pub faults: u64,
+}
+
+fn is_next(fails: &[u64], made: u64) -> bool
+    ensures { IsTrue result ↔ Any (λ number. number ≡ made + 1) fails.now }
+{
+    fails.iter().any(|number| *number > 0 && *number - 1 == made)
+}
+
+impl Calls {
+    pub fn new(fails: Vec<u64>) -> Calls
+        ensures made { result.made ≡ 0 }
+        ensures fails { result.fails ≡ fails }
+        ensures faults { result.faults ≡ 0 }
+    {
+        Calls {
+            made: 0,
+            fails,
+            faults: 0,
+        }
+    }
+
+    /// Counts a call, which fails where it is listed or where `stops`, and then a fault.
+    pub fn strikes(&mut self, stops: bool) -> bool
+        ensures cause { IsTrue result ↔ (Any (λ number. number ≡ self.old.made + 1) self.old.fails.items ⊎ IsTrue stops) }
+        ensures made { self.new.made ≡ raised self.old.made }
+        ensures fails { self.new.fails ≡ self.old.fails }
+        ensures faults { self.new.faults ≡ (if result then raised self.old.faults else self.old.faults) }
+    {
+        let listed = is_next(self.fails.as_slice(), self.made);
+        self.made = one_more(self.made);
+        let fails = listed || stops;
+        if fails {
+            self.faults = one_more(self.faults);
+        }
+        fails
+    }
+}
+
+/// Copies what stands from an offset on, as much as there is room for.
+pub fn copy_out(bytes: &[u8], at: usize, out: &mut [u8]) -> usize
+    requires { at ≤ length bytes.now }
+    ensures count { result ≡ min (length out.old) (length bytes.now - at) }
+    ensures bytes { take result out.new ≡ take result (drop at bytes.now) }
+{
+    let n = out.len().min(bytes.len() - at);
+    out[..n].copy_from_slice(&bytes[at..at + n]);
+    n
+}
