@@ -1,7 +1,7 @@
 -- A part of a list that is replaced.
-use Rattle.std.proofs.Common.{◌≡◌, ℕ, zero, suc, ◌+◌, ◌-◌, ◌<◌, ◌≤◌, min, max, List, [], ◌∷◌, ◌++◌, length, take, drop, replicate, refl, sym, ◌∙◌, ap, arith, length-append, append_assoc, inl, inr}
+use Rattle.std.proofs.Common.{◌≡◌, ℕ, ◌+◌, ◌-◌, ◌<◌, ◌≤◌, max, List, ◌++◌, length, take, drop, replicate, sym, ◌∙◌, ap, arith, length-append, append_assoc, inl, inr}
 use Rattle.std.proofs.lemmas.Bool.{cases_lt}
-use Rattle.std.proofs.lemmas.List.{take-append-drop, take-take, drop-take, take_all, drop_all, drop-drop, length-take, length-drop, length-replicate, take-replicate, take-append-le, drop-append-le, take_at, drop_at, append-nil}
+use Rattle.std.proofs.lemmas.List.{take-append-drop, take-take, drop-take, take_all, drop_all, length-take, length-drop, length-replicate, take-replicate, take-append-le, drop-append-le, append-nil}
 use Rattle.std.proofs.Math.Seq.{take-append-add, drop-append-add}
 use Rattle.outside.specs.Files.{written, resized}
 

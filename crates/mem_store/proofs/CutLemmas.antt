@@ -1,6 +1,6 @@
 -- A list in pieces of given lengths: each piece, one that is replaced, and one more that is empty.
-use Rattle.std.proofs.Common.{◌≡◌, ℕ, zero, suc, ◌+◌, ◌-◌, ◌<◌, ◌≤◌, min, List, [], ◌∷◌, ◌++◌, length, map, take, drop, sum, get_or, set, refl, sym, ◌∙◌, ap, arith, length-append, append_assoc, add-zero}
-use Rattle.std.proofs.lemmas.List.{drop-drop, drop-take, take-take, take-append-le, drop-append-le, length-take, length-drop, take_at, drop_at, take-map, length-map, map-append}
+use Rattle.std.proofs.Common.{◌≡◌, ℕ, zero, suc, ◌+◌, ◌<◌, ◌≤◌, List, [], ◌∷◌, ◌++◌, length, take, drop, sum, get_or, set, refl, sym, ◌∙◌, ap, arith, append_assoc, add-zero}
+use Rattle.std.proofs.lemmas.List.{drop-drop, drop-take, take-take, take-append-le, drop-append-le, length-take, length-drop, take_at, drop_at}
 use Rattle.std.proofs.lemmas.List.Sums.{sum_by-cons, sum_by_more_le, sum_by-set, sum_by-append}
 use Rattle.std.specs.List.{sum_by}
 use Rattle.mem_store.specs.Table.{cut}

@@ -1,11 +1,11 @@
 -- A table that is filled file by file shows the first file of each name.
-use Rattle.std.proofs.Common.{◌≡◌, ◌≢◌, ℕ, zero, suc, ◌+◌, ◌<◌, ◌≤◌, ◌⊎◌, inl, inr, List, [], ◌∷◌, ◌++◌, length, map, take, drop, get_or, set, replicate, refl, sym, ◌∙◌, ap, subst, arith, length-append}
+use Rattle.std.proofs.Common.{◌≡◌, ◌≢◌, ℕ, suc, ◌+◌, ◌<◌, ◌⊎◌, inl, inr, List, [], ◌∷◌, ◌++◌, length, map, get_or, set, refl, sym, ◌∙◌, ap, subst, arith, length-append}
 use Rattle.std.proofs.lemmas.Bool.{cases_lt}
-use Rattle.std.proofs.lemmas.List.{get_or_past, get_or_append_left, get_or_push, set_at, drop_all, append-nil, length-map, map-append}
+use Rattle.std.proofs.lemmas.List.{get_or_past, get_or_append_left, get_or_push, set_at, drop_all, append-nil, map-append}
 use Rattle.outside.specs.Files.{written}
 use Rattle.mem_store.specs.declared.given.NamedBytes.{NamedBytes}
 use Rattle.mem_store.specs.Table.{place_of}
-use Rattle.mem_store.specs.Held.{file_of, first_bytes}
+use Rattle.mem_store.specs.Held.{file_of}
 use Rattle.mem_store.proofs.TableLemmas.{bytes_same, place_of-append_left, place_of-append_new}
 use Rattle.mem_store.proofs.ViewLemmas.{place_of-le}
 

@@ -1,5 +1,5 @@
 -- Totals of what a store holds, and the answers of its calls.
-use Rattle.std.proofs.Common.{◌≡◌, ℕ, ◌+◌, ◌-◌, ◌<◌, ◌≤◌, max, ◌⊎◌, inl, inr, List, [], ◌∷◌, ◌++◌, length, get_or, set, refl, sym, ◌∙◌, ap, subst, arith, Result, Ok, Err}
+use Rattle.std.proofs.Common.{◌≡◌, ℕ, ◌+◌, ◌-◌, ◌<◌, max, ◌⊎◌, List, [], ◌∷◌, ◌++◌, length, get_or, set, refl, ◌∙◌, ap, subst, arith, Ok, Err}
 use Rattle.std.proofs.lemmas.Bool.{false≢true}
 use Rattle.std.specs.List.{sum_by}
 use Rattle.std.proofs.lemmas.List.Sums.{sum_by-set}
@@ -32,8 +32,15 @@ pub written_to : (i at : ℕ) (p : List ℕ) (a m b : Held) → m ≡ counted Wr
     → b ≡ after_write i at p a
 written_to i at p a m b is names contents faults tallies file_faults calls more fails room =
     let step : b ≡ record (put i (written at p (content i m)) m) { written = m.written + length p } = λ j. record {
-      names = names j; contents = contents j; faults = faults j; tallies = tallies j; file_faults = file_faults j;
-      calls = calls j; written = more j; fails = fails j; room = room j;
+      names = names j;
+      contents = contents j;
+      faults = faults j;
+      tallies = tallies j;
+      file_faults = file_faults j;
+      calls = calls j;
+      written = more j;
+      fails = fails j;
+      room = room j;
     } in
     step ∙ ap (λ (h : Held). record (put i (written at p (content i h)) h) { written = h.written + length p }) is
 
@@ -42,8 +49,15 @@ pub added_to : (name : List ℕ) (m b : Held) → b.names ≡ m.names ++ name �
     → b.tallies ≡ m.tallies ++ no_calls ∷ [] → b.file_faults ≡ m.file_faults → b.calls ≡ m.calls → b.written ≡ m.written → b.fails ≡ m.fails → b.room ≡ m.room
     → b ≡ added name m
 added_to name m b names contents faults tallies file_faults calls more fails room = λ j. record {
-  names = names j; contents = contents j; faults = faults j; tallies = tallies j; file_faults = file_faults j;
-  calls = calls j; written = more j; fails = fails j; room = room j;
+  names = names j;
+  contents = contents j;
+  faults = faults j;
+  tallies = tallies j;
+  file_faults = file_faults j;
+  calls = calls j;
+  written = more j;
+  fails = fails j;
+  room = room j;
 }
 
 pub answers_err : {T E : Type 0} (F : Type 0) (done failed new : Held) (e : E) → F → new ≡ failed → Answers {T = T} F done failed new (Err e)

@@ -1,5 +1,6 @@
 -- What a store in memory holds is sound.
-use Rattle.std.proofs.Common.{◌≡◌, ℕ, ◌<◌, length, refl, sym, ◌∙◌, Result, Ok, Err, IfOk, OnOk, OnErr, List, take, drop, ap, subst, true, None}
+use Rattle.std.proofs.Common.{◌≡◌, ℕ, ◌<◌, length, refl, sym, ◌∙◌, Result, Ok, Err, IfOk, OnOk, OnErr, List, take, drop, ap, subst, true, None, inl, inr, arith}
+use Rattle.std.proofs.lemmas.Bool.{cases_lt}
 use Rattle.std.proofs.lemmas.List.{length-map}
 use Rattle.outside.specs.declared.store.FileId.{FileId}
 use Rattle.outside.specs.declared.store.FileStop.{FileStop}
@@ -7,12 +8,12 @@ use Rattle.outside.specs.declared.store.FileStop.TheVariants.{NoMemory, Failed}
 use Rattle.outside.specs.Store.{Gives, SameIds, Calls}
 use Rattle.mem_store.specs.declared.table.Entry.{Entry}
 use Rattle.mem_store.specs.declared.memory.MemStore.{MemStore}
-use Rattle.mem_store.specs.Table.{names_of, lens_of, place_of}
+use Rattle.mem_store.specs.Table.{lens_of, place_of}
 use Rattle.mem_store.specs.Held.{Held, IsSound, view, asked, added, after_file_fault}
 use Rattle.mem_store.specs.Memory.{held}
 use Rattle.mem_store.specs.Laws.{length-faults_of}
 use Rattle.mem_store.proofs.CutLemmas.{length-cut}
-use Rattle.mem_store.proofs.ViewLemmas.{gives, same_ids, file_call_ok, file_call_failed, file_call_none}
+use Rattle.mem_store.proofs.ViewLemmas.{place_of-le, gives, same_ids, file_call_ok, file_call_failed, file_call_none}
 
 pub sound : (m : MemStore) → IsSound (held m)
 sound m = record {
@@ -51,3 +52,8 @@ if_len r f g is fact = subst (λ (l : List ℕ). IfOk r (λ n. n ≡ length l)) 
 
 pub if_part : {E : Type 0} (r : Result ℕ E) (size at : ℕ) (out f g : List ℕ) → g ≡ f → IfOk r (λ n. take n out ≡ take size (drop at f)) → IfOk r (λ n. take n out ≡ take size (drop at g))
 if_part r size at out f g is fact = subst (λ (l : List ℕ). IfOk r (λ n. take n out ≡ take size (drop at l))) (sym is) fact
+
+-- a name that is not known has the place behind the last
+pub on_new : {T E : Type 0} (name : List ℕ) (names : List (List ℕ)) (P : Type 0) (r : Result T E) → OnOk r (place_of name names ≡ length names → P) → OnOk r ((¬ (place_of name names < length names)) → P)
+on_new name names P (Ok x) fact = λ unknown. fact (elim (cases_lt (place_of name names) (length names)) [ inl known ↦ absurd (unknown known) | inr past ↦ omega (arith, place_of-le name names) ])
+on_new name names P (Err e) fact = tt

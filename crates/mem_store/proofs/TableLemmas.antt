@@ -140,10 +140,11 @@ pub added : (b : Bool) (es later : List Entry) (e : Entry) (n : ℕ) → later �
     → place_of e.name (names_of es) ≡ length es → 0 < length e.name → e.len ≡ 0 → AreDistinct (names_of later) × AreNames (names_of later) × (sum (lens_of later) ≡ n)
 added true es later e n is distinct named full absent some empty =
     let names : names_of later ≡ names_of es ++ e.name ∷ [] = ap names_of is ∙ map-append (λ (x : Entry). x.name) es (e ∷ []) in
-    let lens : lens_of later ≡ lens_of es ++ 0 ∷ [] = ap lens_of is ∙ map-append (λ (x : Entry). x.len) es (e ∷ []) ∙ ap (λ (k : ℕ). lens_of es ++ k ∷ []) empty in
-    (subst AreDistinct (sym names) (AreDistinct-push (names_of es) e.name distinct (absent ∙ sym (length-map es (λ (x : Entry). x.name)))),
-    subst AreNames (sym names) (AreNames-push (names_of es) e.name some named),
-    ap sum lens ∙ sum-append-zero (lens_of es) ∙ full)
+    let lens : lens_of later ≡ lens_of es ++ 0 ∷ [] = ap lens_of is ∙ map-append (λ (x : Entry). x.len) es (e ∷ []) ∙ ap (λ (k : ℕ). lens_of es ++ k ∷ []) empty in (
+      subst AreDistinct (sym names) (AreDistinct-push (names_of es) e.name distinct (absent ∙ sym (length-map es (λ (x : Entry). x.name)))),
+      subst AreNames (sym names) (AreNames-push (names_of es) e.name some named),
+      ap sum lens ∙ sum-append-zero (lens_of es) ∙ full,
+    )
 added false es later e n is distinct named full absent some empty =
     (subst AreDistinct (sym (ap names_of is)) distinct, subst AreNames (sym (ap names_of is)) named, ap (λ (l : List Entry). sum (lens_of l)) is ∙ full)
 

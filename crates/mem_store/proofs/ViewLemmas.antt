@@ -1,19 +1,19 @@
 -- What each step of what a store holds is to the outside.
-use Rattle.std.proofs.Common.{◌≡◌, ◌≢◌, ℕ, zero, suc, ◌+◌, ◌-◌, ◌^◌, ◌<◌, ◌≤◌, min, Bool, true, false, IsTrue, Option, Some, None, Result, Ok, Err, OnOk, OnErr, List, [], ◌∷◌, ◌++◌, length, get_or, set, refl, sym, ◌∙◌, ap, subst, arith, inl, inr, ◌⊎◌, cond, length-append, get_or-set_other, get_or-set_same}
+use Rattle.std.proofs.Common.{◌≡◌, ◌≢◌, ℕ, zero, suc, ◌+◌, ◌<◌, ◌≤◌, true, false, Option, Some, None, Result, Ok, Err, OnOk, OnErr, List, [], ◌∷◌, ◌++◌, length, get_or, set, refl, sym, ◌∙◌, ap, subst, arith, inl, inr, length-append, get_or-set_other, get_or-set_same}
 use Rattle.std.proofs.lemmas.Bool.{cases_lt, cases_eq, false≢true}
 use Rattle.std.proofs.lemmas.Bool.Decides.{nat_tests}
 use Rattle.std.specs.Prelude.{IsErr}
 use Rattle.std.specs.List.{range_with_len}
 use Rattle.outside.specs.Causes.{Rose}
-use Rattle.outside.specs.Files.{WrittenInPart, ResizedInPart, written, resized}
-use Rattle.outside.specs.Store.{View, Calls, Gives, SameIds}
+use Rattle.outside.specs.Files.{WrittenInPart, ResizedInPart}
+use Rattle.outside.specs.Store.{Calls, Gives, SameIds}
 use Rattle.std.proofs.Math.ListN.{get_or-append}
 use Rattle.std.proofs.Math.Seq.{get_or-append_seam}
 use Rattle.std.proofs.lemmas.List.{get_or_past, same_lists, get_or_append_left, get_or_push}
 use Rattle.std.proofs.lemmas.List.FromFn.{length-range_with_len, get_or-range_with_len}
 use Rattle.mem_store.specs.declared.table.Op.{Op}
-use Rattle.mem_store.specs.Table.{place_of, AreDistinct, raised}
-use Rattle.mem_store.specs.Held.{Held, IsSound, view, counts_of, file_of, content, counted, struck, after_fault, put, asked, added, after_file_fault, Answers, Looks, Changes}
+use Rattle.mem_store.specs.Table.{place_of, raised}
+use Rattle.mem_store.specs.Held.{Held, IsSound, view, counts_of, file_of, content, counted, after_fault, put, asked, added, after_file_fault, Answers, Looks, Changes}
 use Rattle.mem_store.proofs.TableLemmas.{bytes_same, place_of-append_left, place_of-append_ge}
 
 pub raised-later : (n : ℕ) → n ≤ raised n

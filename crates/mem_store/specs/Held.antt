@@ -107,6 +107,10 @@ after_write i at bytes h = record (put i (written at bytes (content i h)) (count
 abbrev pub after_set_len : ℕ → ℕ → Held → Held
 after_set_len i n h = put i (resized n (content i h)) (counted SetLen i h)
 
+-- the file has an id already
+abbrev pub IsKnown : List ℕ → Held → Type 0
+IsKnown name h = place_of name h.names < length h.names
+
 -- one more call of `file`
 abbrev pub asked : Held → Held
 asked h = record h { calls = raised h.calls }

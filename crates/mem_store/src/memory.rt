@@ -78,7 +78,12 @@ impl MemStore {
 
     /// A store with these files, of two with one name the first, of which the calls listed fail, and those past the
     /// room.
-    pub fn new(alloc: Global, files: Vec<NamedBytes>, fails: Vec<Fail>, room: Room) -> Result<MemStore, NoMemory>
+    pub fn new(
+        alloc: Global,
+        files: Vec<NamedBytes>,
+        fails: Vec<Fail>,
+        room: Room,
+    ) -> Result<MemStore, NoMemory>
         ensures files { IfOk result (λ m. (q : List ℕ) → (view (held m)).files q ≡ first_bytes files.items q) }
         ensures new { IfOk result (λ m. IsNew (held m)) }
         ensures counts { IfOk result (λ m. (k : Option ℕ) → (view (held m)).counts k ≡ 0) }
@@ -133,7 +138,12 @@ impl MemStore {
         ensures counted { held self.new ≡ counted op i (held self.old) }
     {
         let late = self.room.calls <= self.calls;
-        let listed = is_listed(self.fails.as_slice(), self.table.name(i), op, self.table.tally(i).of(op));
+        let listed = is_listed(
+            self.fails.as_slice(),
+            self.table.name(i),
+            op,
+            self.table.tally(i).of(op),
+        );
         self.calls = one_more(self.calls);
         self.table.count_call(i, op);
         listed || late
@@ -271,7 +281,10 @@ impl Store for MemStore {
     ghost use Rattle.std.proofs.lemmas.Bool.{false≢true};
     ghost use Rattle.mem_store.specs.Memory.{held};
     ghost use Rattle.mem_store.specs.Held.{view as view_of};
+    ghost use Rattle.mem_store.specs.Held.{IsLate, IsKnown, asked, after_file_fault, added, after_write, after_set_len, Looks, Changes};
     ghost use Rattle.mem_store.specs.Laws.{are_ids, length-faults_of};
+    ghost use Rattle.std.specs.Prelude.{Some, None, IsErr, IsErrOf, OnErr};
+    ghost use Rattle.outside.specs.Store.{Calls, Gives, SameIds};
 
     ghost tells_files = { true };
 
@@ -291,27 +304,74 @@ impl Store for MemStore {
 
     ghost only_now = { λ told. absurd (false≢true told) };
 
-    fn file(&mut self, name: &Name) -> Result<FileId, FileStop> {
+    fn file(&mut self, name: &Name) -> Result<FileId, FileStop>
+        ensures given { IfOk result (λ id. Gives name.now id.n (view_of (held self.old)) (view_of (held self.new))) }
+        ensures same { OnErr result (SameIds (view_of (held self.old)) (view_of (held self.new))) }
+        ensures call { Calls true None (IsErrOf result FileStop.Failed) (λ _. ⊥) (view_of (held self.old)) (view_of (held self.new)) }
+        ensures cause { IsErrOf result FileStop.Failed ↔ IsLate (held self.old) }
+        ensures known { OnOk result (IsKnown name.now (held self.old) → held self.new ≡ asked (held self.old)) }
+        ensures new { OnOk result ((¬ IsKnown name.now (held self.old)) → held self.new ≡ added name.now (asked (held self.old))) }
+        ensures failed { IsErrOf result FileStop.Failed → held self.new ≡ after_file_fault (held self.old) }
+        ensures no_memory { IsErrOf result FileStop.NoMemory → held self.new ≡ asked (held self.old) }
+    {
         self.ask(name)
     }
 
-    fn len(&mut self, id: FileId) -> Result<u64, Failed> {
+    fn len(&mut self, id: FileId) -> Result<u64, Failed>
+        requires given { 0 < length ((view_of (held self.old)).names id.n) }
+        ensures len { IfOk result (λ n. n ≡ length ((view_of (held self.old)).files ((view_of (held self.old)).names id.n))) }
+        ensures names { (view_of (held self.new)).names ≡ (view_of (held self.old)).names }
+        ensures ids { (view_of (held self.new)).ids ≡ (view_of (held self.old)).ids }
+        ensures call { Calls true (Some id.n) (IsErr result) (λ _. ⊥) (view_of (held self.old)) (view_of (held self.new)) }
+        ensures exact { Looks Op.Len id.n (held self.old) (held self.new) result }
+    {
         self.len_of(id.n as usize)
     }
 
-    fn read(&mut self, id: FileId, at: u64, out: &mut [u8]) -> Result<usize, Failed> {
+    fn read(&mut self, id: FileId, at: u64, out: &mut [u8]) -> Result<usize, Failed>
+        requires given { 0 < length ((view_of (held self.old)).names id.n) }
+        ensures count { IfOk result (λ n. n ≤ length out.old) }
+        ensures bytes { IfOk result (λ n. take n out.new ≡ take (length out.old) (drop at ((view_of (held self.old)).files ((view_of (held self.old)).names id.n)))) }
+        ensures names { (view_of (held self.new)).names ≡ (view_of (held self.old)).names }
+        ensures ids { (view_of (held self.new)).ids ≡ (view_of (held self.old)).ids }
+        ensures call { Calls true (Some id.n) (IsErr result) (λ _. ⊥) (view_of (held self.old)) (view_of (held self.new)) }
+        ensures exact { Looks Op.Read id.n (held self.old) (held self.new) result }
+    {
         self.read_at(id.n as usize, at as usize, out)
     }
 
-    fn write(&mut self, id: FileId, at: u64, bytes: &[u8]) -> Result<(), Failed> {
+    fn write(&mut self, id: FileId, at: u64, bytes: &[u8]) -> Result<(), Failed>
+        requires given { 0 < length ((view_of (held self.old)).names id.n) }
+        requires fits { at + length bytes.now ≤ 2 ^ 49 }
+        ensures written { OnOk result ((view_of (held self.new)).files ((view_of (held self.old)).names id.n) ≡ written at bytes.now ((view_of (held self.old)).files ((view_of (held self.old)).names id.n))) }
+        ensures failed { OnErr result ((view_of (held self.new)).files ((view_of (held self.old)).names id.n) ≡ ((view_of (held self.old)).files ((view_of (held self.old)).names id.n))) }
+        ensures names { (view_of (held self.new)).names ≡ (view_of (held self.old)).names }
+        ensures ids { (view_of (held self.new)).ids ≡ (view_of (held self.old)).ids }
+        ensures call { Calls true (Some id.n) (IsErr result) (λ q. q ≡ (view_of (held self.old)).names id.n) (view_of (held self.old)) (view_of (held self.new)) }
+        ensures exact { Changes Op.Write id.n (held self.old) (after_write id.n at bytes.now (held self.old)) (held self.new) result }
+    {
         self.write_at(id.n as usize, at, bytes)
     }
 
-    fn set_len(&mut self, id: FileId, n: u64) -> Result<(), Failed> {
+    fn set_len(&mut self, id: FileId, n: u64) -> Result<(), Failed>
+        requires given { 0 < length ((view_of (held self.old)).names id.n) }
+        ensures resized { OnOk result ((view_of (held self.new)).files ((view_of (held self.old)).names id.n) ≡ resized n ((view_of (held self.old)).files ((view_of (held self.old)).names id.n))) }
+        ensures failed { OnErr result ((view_of (held self.new)).files ((view_of (held self.old)).names id.n) ≡ ((view_of (held self.old)).files ((view_of (held self.old)).names id.n))) }
+        ensures names { (view_of (held self.new)).names ≡ (view_of (held self.old)).names }
+        ensures ids { (view_of (held self.new)).ids ≡ (view_of (held self.old)).ids }
+        ensures call { Calls true (Some id.n) (IsErr result) (λ q. q ≡ (view_of (held self.old)).names id.n) (view_of (held self.old)) (view_of (held self.new)) }
+        ensures exact { Changes Op.SetLen id.n (held self.old) (after_set_len id.n n (held self.old)) (held self.new) result }
+    {
         self.resize(id.n as usize, n)
     }
 
-    fn sync(&mut self, id: FileId) -> Result<(), Failed> {
+    fn sync(&mut self, id: FileId) -> Result<(), Failed>
+        requires given { 0 < length ((view_of (held self.old)).names id.n) }
+        ensures names { (view_of (held self.new)).names ≡ (view_of (held self.old)).names }
+        ensures ids { (view_of (held self.new)).ids ≡ (view_of (held self.old)).ids }
+        ensures call { Calls true (Some id.n) (IsErr result) (λ _. ⊥) (view_of (held self.old)) (view_of (held self.new)) }
+        ensures exact { Looks Op.Sync id.n (held self.old) (held self.new) result }
+    {
         self.flush(id.n as usize)
     }
 }

@@ -14,7 +14,9 @@ pub struct Calls {
 fn is_next(fails: &[u64], made: u64) -> bool
     ensures { IsTrue result ↔ Any (λ number. number ≡ made + 1) fails.now }
 {
-    fails.iter().any(|number| *number > 0 && *number - 1 == made)
+    fails
+        .iter()
+        .any(|number| *number > 0 && *number - 1 == made)
 }
 
 impl Calls {

@@ -24,9 +24,9 @@ impl Model for VecSink {
     ghost Value = { Filled };
 
     ghost view = { λ s. record {
-        written = s.bytes.items;
-        room = s.room;
-        calls = record { made = s.calls.made; fails = s.calls.fails.items; faults = s.calls.faults };
+      written = s.bytes.items;
+      room = s.room;
+      calls = record { made = s.calls.made; fails = s.calls.fails.items; faults = s.calls.faults };
     } };
 
     ghost invariant = { λ s. s.room ≤ vec_capacity s.bytes };

@@ -22,8 +22,8 @@ impl Model for VecSource {
     ghost Value = { Feed };
 
     ghost view = { λ s. record {
-        left = drop s.at s.bytes;
-        calls = record { made = s.calls.made; fails = s.calls.fails.items; faults = s.calls.faults };
+      left = drop s.at s.bytes;
+      calls = record { made = s.calls.made; fails = s.calls.fails.items; faults = s.calls.faults };
     } };
 
     ghost invariant = { λ s. s.at ≤ length s.bytes };

@@ -1,4 +1,4 @@
-use Rattle.std.proofs.Common.{◌≡◌, ◌+◌, ◌≤◌, ◌∙◌, max, length, refl, arith}
+use Rattle.std.proofs.Common.{◌∙◌, length, refl, arith}
 use Rattle.mem_store.proofs.ArenaLemmas.{overwritten}
 use Rattle.mem_store.proofs.arena.overwrite.Goals as goal
 

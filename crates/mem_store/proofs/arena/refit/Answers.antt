@@ -1,4 +1,4 @@
-use Rattle.std.proofs.Common.{◌≡◌, ◌≤◌, ◌∙◌, arith}
+use Rattle.std.proofs.Common.{◌∙◌, arith}
 use Rattle.mem_store.proofs.ArenaLemmas.{refit_more, refit_less}
 use Rattle.mem_store.proofs.arena.refit.Goals as goal
 

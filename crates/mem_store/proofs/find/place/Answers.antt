@@ -1,7 +1,7 @@
-use Rattle.std.proofs.Common.{rules, ◌≡◌, ◌≢◌, ◌<◌, ◌+◌, ℕ, [], length, get_or, sym, ◌∙◌, ap, arith, below_more}
+use Rattle.std.proofs.Common.{rules, ◌≡◌, ◌≢◌, ◌<◌, [], length, get_or, sym, ◌∙◌, ap, arith, below_more}
 use Rattle.std.proofs.lemmas.List.{length-map}
 use Rattle.mem_store.specs.declared.table.Entry.{Entry}
-use Rattle.mem_store.specs.Table.{names_of, place_of}
+use Rattle.mem_store.specs.Table.{names_of}
 use Rattle.mem_store.proofs.TableLemmas.{map_at, place_of-found, place_of-absent}
 use Rattle.mem_store.proofs.find.place.Goals as goal
 

@@ -1,11 +1,10 @@
-use Rattle.std.proofs.Common.{◌≡◌, ◌<◌, ℕ, List, [], ◌∷◌, ◌++◌, length, map, get_or, sym, ◌∙◌, ap, arith}
+use Rattle.std.proofs.Common.{◌≡◌, ◌<◌, ℕ, List, [], ◌∷◌, ◌++◌, length, get_or, sym, ◌∙◌, ap, arith}
 use Rattle.std.proofs.lemmas.List.{length-map}
 use Rattle.mem_store.specs.declared.table.Tally.{Tally}
 use Rattle.mem_store.specs.declared.table.Entry.{Entry}
-use Rattle.mem_store.specs.declared.given.NamedBytes.{NamedBytes}
 use Rattle.mem_store.specs.Table.{names_of, contents_of, faults_of, tallies_of, no_calls, place_of}
 use Rattle.mem_store.proofs.ViewLemmas.{last_default}
-use Rattle.mem_store.proofs.FilesLemmas.{Shows, shows_again, shows_more, shows_map, shows_at}
+use Rattle.mem_store.proofs.FilesLemmas.{shows_again, shows_more, shows_map, shows_at}
 use Rattle.mem_store.proofs.memory.table_of.Goals as goal
 
 pub loop-file-preserved-in-Some-find : goal.loop-file-preserved-in-Some-find

@@ -8,5 +8,5 @@ abbrev pub invariant-loop-file : goal.invariant-loop-file
 invariant-loop-file l = record {
   shows : Shows (names_of l.table.entries.items) (contents_of l.table.entries.items l.table.bytes.items) (map (λ (f : NamedBytes). f.name) l.yielded) (map (λ (f : NamedBytes). f.bytes) l.yielded);
   faults : (i : ℕ) → get_or (faults_of l.table.entries.items) i 0 ≡ 0;
-  tallies : (i : ℕ) → get_or (tallies_of l.table.entries.items) i no_calls ≡ no_calls
+  tallies : (i : ℕ) → get_or (tallies_of l.table.entries.items) i no_calls ≡ no_calls;
 }

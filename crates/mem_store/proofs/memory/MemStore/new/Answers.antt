@@ -1,4 +1,4 @@
-use Rattle.std.proofs.Common.{◌≡◌, ℕ, Option, Some, None, List, get_or, refl, sym, ◌∙◌, ap}
+use Rattle.std.proofs.Common.{◌≡◌, ℕ, Option, Some, None, List, get_or, refl, ◌∙◌}
 use Rattle.mem_store.specs.Table.{names_of, contents_of, faults_of}
 use Rattle.mem_store.specs.Held.{view, counts_of, file_of}
 use Rattle.mem_store.proofs.memory.MemStore.new.Goals as goal

@@ -1,4 +1,4 @@
-use Rattle.std.proofs.Common.{◌≡◌, ◌∙◌, ap}
+use Rattle.std.proofs.Common.{◌∙◌, ap}
 use Rattle.mem_store.specs.Held.{Held, struck}
 use Rattle.mem_store.specs.Memory.{held}
 use Rattle.mem_store.proofs.TableLemmas.{contents_within}

@@ -1,7 +1,7 @@
 use Rattle.std.proofs.Common.{◌≡◌, ◌+◌, ◌-◌, max, ℕ, length, refl, sym, ◌∙◌, ap}
 use Rattle.std.proofs.lemmas.Bool.{false≢true}
 use Rattle.std.specs.List.{sum_by}
-use Rattle.mem_store.specs.Held.{Held, struck, content, total, after_write}
+use Rattle.mem_store.specs.Held.{Held, struck, content}
 use Rattle.mem_store.specs.Memory.{held}
 use Rattle.mem_store.proofs.TableLemmas.{contents_within}
 use Rattle.mem_store.proofs.HeldLemmas.{total-after_write, at_most, written_to, answers_err, answers_ok}
@@ -26,4 +26,4 @@ returns c =
     answers_ok _ _ _ _ _
     (λ fails. false≢true (sym c.if-fails_with.false ∙ c.fails_with.ensures.told.1 (at_most _ _ _ _ (sym whole) fails)))
     (written_to c.args.i c.args.at c.args.piece.now (held c.args.self.now) (held c.fails_with.new.self) _ c.fails_with.ensures.counted
-      c.write.ensures.names c.write.ensures.contents c.write.ensures.faults c.write.ensures.tallies refl refl refl refl refl)
+    c.write.ensures.names c.write.ensures.contents c.write.ensures.faults c.write.ensures.tallies refl refl refl refl refl)

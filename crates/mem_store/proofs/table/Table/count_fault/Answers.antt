@@ -1,4 +1,4 @@
-use Rattle.std.proofs.Common.{◌≡◌, ◌<◌, length, get_or, set, sym, ◌∙◌, ap, arith}
+use Rattle.std.proofs.Common.{set, sym, ◌∙◌, ap}
 use Rattle.std.proofs.lemmas.List.{map-set}
 use Rattle.mem_store.specs.declared.table.Entry.{Entry}
 use Rattle.mem_store.specs.Table.{faults_of, raised}

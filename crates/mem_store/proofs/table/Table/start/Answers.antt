@@ -1,4 +1,4 @@
-use Rattle.std.proofs.Common.{◌≡◌, ◌+◌, ◌<◌, ◌≤◌, length, take, sum, get_or, List, ℕ, sym, ◌∙◌, ap, arith}
+use Rattle.std.proofs.Common.{◌≡◌, ◌<◌, length, take, sum, List, sym, ◌∙◌, ap, arith}
 use Rattle.std.proofs.lemmas.List.{take-map, length-map}
 use Rattle.mem_store.specs.declared.table.Entry.{Entry}
 use Rattle.mem_store.specs.Table.{lens_of}
