@@ -1,7 +1,7 @@
 -- Products of sizes, taken from the first on.
-use Rattle.std.proofs.Common.{◌≡◌, ℕ, zero, suc, ◌+◌, ◌-◌, ◌*◌, ◌^◌, ◌<◌, ◌≤◌, List, [], ◌∷◌, ◌++◌, Bool, true, false, IsTrue, ◌↔◌, length, take, drop, get_or, refl, sym, ap, subst, ◌∙◌, arith}
+use Rattle.std.proofs.Common.{◌≡◌, ℕ, zero, suc, ◌+◌, ◌-◌, ◌*◌, ◌^◌, ◌<◌, ◌≤◌, List, [], ◌∷◌, Bool, true, false, IsTrue, ◌↔◌, length, take, drop, get_or, refl, subst, arith}
 use Rattle.std.proofs.Math.Nat.{mul-le-mul_left}
-use Rattle.dtype.specs.Products.{FitsFile, product}
+use Rattle.dtype.specs.Products.{product}
 
 -- one size more
 pub product-take : (ns : List ℕ) (i : ℕ) → i < length ns → product (take (i + 1) ns) ≡ product (take i ns) * get_or ns i 0

@@ -1,11 +1,11 @@
 -- A dataspace that is written is spelled.
-use Rattle.std.proofs.Common.{◌≡◌, ℕ, zero, suc, ◌+◌, ◌*◌, ◌/◌, ◌%◌, ◌^◌, ◌<◌, ◌≤◌, Bool, true, false, List, [], ◌∷◌, ◌++◌, length, All, refl, sym, ap, subst, ◌∙◌, arith, append_assoc, length-append}
-use Rattle.std.specs.Prelude.{◌==◌, Option, None, Some}
+use Rattle.std.proofs.Common.{◌≡◌, ℕ, zero, suc, ◌+◌, ◌*◌, ◌%◌, ◌^◌, ◌<◌, ◌≤◌, List, [], ◌∷◌, ◌++◌, length, refl, sym, ap, subst, ◌∙◌, arith, append_assoc, length-append}
+use Rattle.std.specs.Prelude.{Option, None, Some}
 use Rattle.std.specs.Int.{w64, to_le_bytes}
-use Rattle.h5_base.specs.Fields.{u64_at, u64s_at, u64s_bytes}
+use Rattle.h5_base.specs.Fields.{u64s_at, u64s_bytes}
 use Rattle.h5_base.proofs.FieldLemmas.{u64_at-past, u64_at-written, length-u64s_bytes}
 use Rattle.dtype.specs.declared.types.Shape.{Shape}
-use Rattle.dtype.specs.Shapes.{IsShape, SpellsShape, HasLength, AreU64s, MaxAreU64s, IsSpace, shape_of, shape_bytes, max_bytes, max_flag}
+use Rattle.dtype.specs.Shapes.{IsShape, SpellsShape, AreU64s, MaxAreU64s, shape_bytes, max_bytes, max_flag}
 
 -- numbers past the front part
 pub u64s_at-past : (xs ys : List ℕ) (at step n : ℕ) → u64s_at (xs ++ ys) (length xs + at) step n ≡ u64s_at ys at step n

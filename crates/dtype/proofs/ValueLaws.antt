@@ -1,11 +1,11 @@
 -- The bytes of a value: as many as the type says, and the value is read back from them.
-use Rattle.std.proofs.Common.{◌≡◌, ℕ, zero, suc, ◌+◌, ◌-◌, ◌*◌, ◌/◌, ◌%◌, ◌^◌, ◌<◌, ◌≤◌, Bool, true, false, ℤ, pos, negsuc, ◌+ℤ◌, ◌≤ℤ◌, ◌<ℤ◌, FitsSigned, to_z, of_z, List, [], ◌∷◌, ◌++◌, length, take, reverse, cond, refl, sym, ap, subst, ◌∙◌, arith, append_assoc, length-append}
-use Rattle.std.specs.Prelude.{neg_ℤ, replicate, not, ◌==◌}
-use Rattle.std.specs.Int.{Width, w8, w16, w32, w64, to_le_bytes, to_be_bytes, from_le_bytes, from_be_bytes}
-use Rattle.std.specs.List.{take_while, suffix_len, prefix_len}
+use Rattle.std.proofs.Common.{◌≡◌, ℕ, zero, suc, ◌+◌, ◌-◌, ◌*◌, ◌^◌, ◌<◌, ◌≤◌, Bool, true, false, ℤ, pos, negsuc, FitsSigned, of_z, List, [], ◌∷◌, ◌++◌, length, take, cond, refl, sym, ap, ◌∙◌, arith, append_assoc, length-append}
+use Rattle.std.specs.Prelude.{replicate, not, ◌==◌}
+use Rattle.std.specs.Int.{to_le_bytes, to_be_bytes, from_le_bytes, from_be_bytes}
+use Rattle.std.specs.List.{suffix_len, prefix_len}
 use Rattle.std.proofs.lemmas.Int.{ints, to_z-of_z}
 use Rattle.std.proofs.lemmas.List.{append-nil, length-replicate, reverse-append, take-append-le}
-use Rattle.std.proofs.lemmas.List.Sums.{take_while-cons, suffix_len-le-length}
+use Rattle.std.proofs.lemmas.List.Sums.{take_while-cons}
 use Rattle.std.proofs.lemmas.Nat.{from_le_bytes-to_le_bytes_2, from_le_bytes-to_le_bytes_4, from_le_bytes-to_le_bytes_8, from_be_bytes-to_be_bytes_2, from_be_bytes-to_be_bytes_4, from_be_bytes-to_be_bytes_8}
 use Rattle.dtype.specs.declared.types.Pad.{Pad}
 use Rattle.dtype.specs.declared.types.Pad.TheVariants.{Nul, Ended, Space}

@@ -1,4 +1,4 @@
-use Rattle.std.proofs.Common.{◌≡◌, ◌+◌, ◌-◌, ◌*◌, ◌^◌, ◌<◌, ◌≤◌, ◌∙◌, get_or, take, arith}
+use Rattle.std.proofs.Common.{◌-◌, ◌*◌, ◌^◌, ◌<◌, ◌∙◌, get_or, arith}
 use Rattle.dtype.specs.Products.{product}
 use Rattle.dtype.proofs.ProductLaws.{bytes-take, past_most, some_bytes}
 use Rattle.dtype.proofs.dims.bytes_of.Goals as goal

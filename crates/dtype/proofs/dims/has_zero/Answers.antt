@@ -1,5 +1,4 @@
-use Rattle.std.proofs.Common.{◌≡◌, ◌+◌, ◌*◌, ◌<◌, get_or, take, refl, arith}
-use Rattle.dtype.specs.Products.{product}
+use Rattle.std.proofs.Common.{◌<◌, get_or, refl, arith}
 use Rattle.dtype.proofs.ProductLaws.{product-take, product-zero, positive}
 use Rattle.dtype.proofs.dims.has_zero.Goals as goal
 

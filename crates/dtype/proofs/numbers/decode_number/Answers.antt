@@ -1,4 +1,4 @@
-use Rattle.std.proofs.Common.{◌≡◌, ◌<◌, ◌*◌, ◌^◌, ◌≤ℤ◌, length, arith}
+use Rattle.std.proofs.Common.{◌<◌, ◌*◌, ◌^◌, ◌≤ℤ◌, length, arith}
 use Rattle.std.proofs.lemmas.Int.{ints}
 use Rattle.dtype.proofs.NumberLaws.{number_of_bits, unsigned_below}
 use Rattle.dtype.proofs.numbers.decode_number.Goals as goal

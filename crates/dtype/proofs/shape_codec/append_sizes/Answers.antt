@@ -1,4 +1,4 @@
-use Rattle.std.proofs.Common.{◌≡◌, ◌++◌, take, get_or, append_assoc, refl, sym}
+use Rattle.std.proofs.Common.{take, get_or, append_assoc}
 use Rattle.std.specs.Int.{w64, to_le_bytes}
 use Rattle.h5_base.specs.Fields.{u64s_bytes}
 use Rattle.h5_base.proofs.FieldLemmas.{u64s_bytes-take}

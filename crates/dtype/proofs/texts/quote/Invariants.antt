@@ -1,4 +1,4 @@
-use Rattle.std.proofs.Common.{◌≡◌, ◌++◌, [], ◌∷◌, take}
+use Rattle.std.proofs.Common.{◌≡◌, ◌∷◌, take}
 use Rattle.std.specs.Prelude.{flat_map}
 use Rattle.dtype.specs.Values.{symbol}
 use Rattle.dtype.proofs.texts.quote.Given as goal

@@ -1,9 +1,9 @@
-use Rattle.std.proofs.Common.{rules, ◌≡◌, FitsSigned, to_z, of_z, Ok, Err, Result, IfOk, OnOk, subst, sym}
+use Rattle.std.proofs.Common.{rules, ◌≡◌, FitsSigned, to_z, of_z, Ok, Err, Result, IfOk, OnOk, subst}
 use Rattle.std.specs.Int.{w128}
 use Rattle.std.proofs.lemmas.Int.{to_z-of_z}
 use Rattle.dtype.specs.declared.types.ElemType.TheVariants as elem
 use Rattle.dtype.specs.declared.types.Value.TheVariants as value
-use Rattle.dtype.specs.Values.{CanHold, value_of, canonical, encoding}
+use Rattle.dtype.specs.Values.{CanHold, encoding}
 use Rattle.dtype.specs.Types.{IsElemType}
 use Rattle.dtype.proofs.ValueLaws.{encoding_read}
 use Rattle.dtype.proofs.values.encode_value.Goals as goal
