@@ -1,0 +1,6 @@
+pub mod CellLemmas
+pub mod PutLemmas
+pub mod NodeLemmas
+pub mod HeapLemmas
+pub mod SnodLemmas
+pub mod GroupLemmas

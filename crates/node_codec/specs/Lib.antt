@@ -1,0 +1,5 @@
+pub mod Cells
+pub mod Heap
+pub mod Snod
+pub mod TreeHead
+pub mod GroupNodes

@@ -1,0 +1,12 @@
+//! The blocks of a group and of a chunk index: nodes of version-1 B-trees, symbol table nodes and headers of local
+//! heaps.
+#![tactic(auto)]
+
+mod group_node;
+mod heap;
+mod snod;
+mod tree_head;
+
+pub use group_node::{GroupNode, read_group_node, write_group_node};
+pub use heap::{HeapHead, read_heap, write_heap};
+pub use snod::{SnodEntry, read_snod, write_snod};
