@@ -4,3 +4,4 @@ pub mod NodeLemmas
 pub mod HeapLemmas
 pub mod SnodLemmas
 pub mod GroupLemmas
+pub mod ChunkLemmas

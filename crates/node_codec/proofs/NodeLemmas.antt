@@ -1,5 +1,5 @@
 -- The keys and children of a node that is written are read again: for each width and spelling of a key.
-use Rattle.std.proofs.Common.{◌≡◌, ℕ, ◌+◌, ◌*◌, ◌^◌, ◌<◌, ◌≤◌, List, [], ◌∷◌, ◌++◌, length, take, drop, map, get_or, refl, sym, ap, ◌∙◌, arith, append_assoc, length-append, length-take}
+use Rattle.std.proofs.Common.{◌≡◌, ℕ, zero, suc, ◌+◌, ◌*◌, ◌^◌, ◌<◌, ◌≤◌, List, [], ◌∷◌, ◌++◌, length, take, drop, map, get_or, refl, sym, ap, ◌∙◌, arith, append_assoc, length-append, length-take}
 use Rattle.std.specs.List.{All}
 use Rattle.std.specs.Int.{w64, to_le_bytes}
 use Rattle.std.proofs.lemmas.List.{drop_at, drop-drop, length-map, map_more, take_all}
@@ -19,6 +19,10 @@ numbers-wide ns = All-map (IsWide 8) number ns (λ k d lt. refl)
 pub numbers-undone : (ns : List ℕ) → All IsU64 ns → map (λ c. u64_at c 0) (map number ns) ≡ ns
 unfolding u64_at
 numbers-undone ns all = map-undone number (λ c. u64_at c 0) ns (λ k d lt. from_le_bytes-to_le_bytes_8 (get_or ns k d) (all k d lt))
+
+pub length-u64s_at : (b : List ℕ) (at step n : ℕ) → length (u64s_at b at step n) ≡ n
+length-u64s_at b at step zero = refl
+length-u64s_at b at step (suc n) = ap suc (length-u64s_at b (at + step) step n)
 
 -- the bytes of a node from its head on
 abbrev pub node : {X : Type 0} → (X → List ℕ) → List ℕ → List X → List ℕ → List ℕ → List ℕ

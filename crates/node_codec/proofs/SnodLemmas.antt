@@ -1,5 +1,5 @@
 -- The entries of a symbol table node.
-use Rattle.std.proofs.Common.{◌≡◌, ℕ, ◌+◌, ◌-◌, ◌*◌, ◌<◌, ◌≤◌, List, [], ◌∷◌, ◌++◌, length, take, drop, map, get_or, replicate, refl, sym, arith, length-append}
+use Rattle.std.proofs.Common.{◌≡◌, ℕ, ◌+◌, ◌-◌, ◌*◌, ◌<◌, ◌≤◌, List, [], ◌∷◌, ◌++◌, length, take, drop, map, get_or, replicate, refl, sym, ap, ◌∙◌, arith, length-append}
 use Rattle.std.specs.List.{flat_map, All}
 use Rattle.std.specs.Int.{w16, to_le_bytes}
 use Rattle.std.proofs.lemmas.Grind.{flat_map-append}
@@ -8,7 +8,7 @@ use Rattle.std.proofs.lemmas.Nat.{from_le_bytes-to_le_bytes_2, from_le_bytes-to_
 use Rattle.h5_base.specs.Fields.{bytes_at, u16_at, u32_at, u64_at}
 use Rattle.node_codec.specs.declared.snod.SnodEntry.{SnodEntry}
 use Rattle.node_codec.specs.Cells.{cells, padded}
-use Rattle.node_codec.specs.Snod.{SpellsSnod, EntryInRange, IsCache, entry_of, entries_of, entry_bytes, snod_bytes, snod_len, snod_signature}
+use Rattle.node_codec.specs.Snod.{SpellsSnod, FitsSnod, EntryInRange, IsCache, entry_of, entries_of, entry_bytes, snod_bytes, snod_len, snod_signature}
 use Rattle.node_codec.proofs.CellLemmas.{cells-more, cells-at, cells-rows, length-cells, map-undone}
 use Rattle.node_codec.proofs.PutLemmas.{length-padded}
 
@@ -43,18 +43,24 @@ entry-undone e r =
       from_le_bytes-to_le_bytes_8 e.heap_at r.heap_at,
     ) refl
 
-pub snod-spelled : (k : ℕ) (es : List SnodEntry) → k ≤ 1024 → length es ≤ 2 * k → All IsCache es → All EntryInRange es → SpellsSnod k es (snod_bytes k es)
+pub snod-spelled : (k : ℕ) (es : List SnodEntry) → k ≤ 1024 → FitsSnod k es → All EntryInRange es → SpellsSnod k es (snod_bytes k es)
 unfolding u16_at
-snod-spelled k es small room caches ranges =
+snod-spelled k es small fit ranges =
     let head : List ℕ = snod_signature ++ (1 ∷ 0 ∷ []) ++ to_le_bytes w16 (length es) in
     let used = head ++ flat_map entry_bytes es in
     let rest : List ℕ = replicate (snod_len k - length used) 0 in
-    let count : u16_at (snod_bytes k es) 6 ≡ length es = from_le_bytes-to_le_bytes_2 (length es) (omega arith) in
-    let fits : length used ≤ snod_len k = omega (arith, length-append head (flat_map entry_bytes es), length-entries es) in
+    let count : u16_at (snod_bytes k es) 6 ≡ length es = from_le_bytes-to_le_bytes_2 (length es) (omega (arith, fit.room)) in
+    let fits : length used ≤ snod_len k = omega (arith, fit.room, length-append head (flat_map entry_bytes es), length-entries es) in
     let read : cells 40 40 (length es) (flat_map entry_bytes es ++ rest) ≡ map entry_bytes es = cells-rows 40 entry_bytes es rest (λ i d lt. refl) in
     let again : map entry_of (map entry_bytes es) ≡ es = map-undone entry_bytes entry_of es (λ i d lt. entry-undone (get_or es i d) (ranges i d lt)) in
     record {
-      block = record { len = length-padded (snod_len k) used fits; signature = refl; version = refl; room = rw count room };
+      block = record { len = length-padded (snod_len k) used fits; signature = refl; version = refl; room = rw count fit.room };
       value = sym (rw (count, read) again);
-      caches = caches;
+      caches = fit.caches;
     }
+
+-- entries that are spelled fit
+pub snod-fits : (k : ℕ) (es : List SnodEntry) (b : List ℕ) → SpellsSnod k es b → FitsSnod k es
+snod-fits k es b p =
+    let count : length es ≡ u16_at b 6 = ap length p.value ∙ length-entries_of b (u16_at b 6) in
+    record { room = omega (arith, p.block.room); caches = p.caches }

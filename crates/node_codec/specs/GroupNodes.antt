@@ -1,6 +1,6 @@
 -- A node of a group's B-tree, by the HDF5 File Format Specification 3.0, III.A.1.
 -- Cited by `read_group_node`, `write_group_node` and whatever says what a group's blocks hold.
-use Rattle.std.specs.Prelude.{◌≡◌, ℕ, ◌+◌, ◌*◌, List, [], ◌∷◌, ◌++◌, length, take, map, slice_index}
+use Rattle.std.specs.Prelude.{◌≡◌, ℕ, ◌+◌, ◌*◌, ◌≤◌, List, [], ◌∷◌, ◌++◌, length, take, map, slice_index}
 use Rattle.std.specs.Int.{w64, to_le_bytes}
 use Rattle.h5_base.specs.Fields.{u64_at, u64s_at}
 use Rattle.node_codec.specs.Cells.{woven, padded}
@@ -25,6 +25,11 @@ group_node_of b = record {
 pub record SpellsGroupNode (k : ℕ) (n : GroupNode) (b : List ℕ) : Type 0 where
   pub block : IsTreeNode 0 k (group_node_len k) b
   pub value : n ≡ group_node_of b
+
+-- a node that a block with room for 2k children can spell
+pub record FitsGroupNode (k : ℕ) (n : GroupNode) : Type 0 where
+  pub room : length n.children ≤ 2 * k
+  pub one_more : length n.keys ≡ length n.children + 1
 
 -- the block that is written: unused cells are 0
 abbrev pub group_node_bytes : ℕ → GroupNode → List ℕ

@@ -3,3 +3,4 @@ pub mod Heap
 pub mod Snod
 pub mod TreeHead
 pub mod GroupNodes
+pub mod ChunkNodes

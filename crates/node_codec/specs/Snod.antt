@@ -28,9 +28,9 @@ entry_of c = record {
 abbrev pub entries_of : List ℕ → ℕ → List SnodEntry
 entries_of b n = map entry_of (cells 40 40 n (drop 8 b))
 
--- where a soft link's value stands in the heap: the first four bytes of the scratch pad (cache type 2)
-abbrev pub value_at : SnodEntry → ℕ
-value_at e = e.tree_at % 2 ^ 32
+-- where a soft link's value stands in the heap: the number in the first four bytes of the scratch pad
+abbrev pub soft_value_at : SnodEntry → ℕ
+soft_value_at e = u32_at (to_le_bytes w64 e.tree_at) 0
 
 -- nothing is cached, a group's addresses are, or the entry is a soft link
 abbrev pub IsCache : SnodEntry → Type 0
@@ -47,6 +47,11 @@ pub record IsSnod (k : ℕ) (b : List ℕ) : Type 0 where
 pub record SpellsSnod (k : ℕ) (es : List SnodEntry) (b : List ℕ) : Type 0 where
   pub block : IsSnod k b
   pub value : es ≡ entries_of b (u16_at b 6)
+  pub caches : All IsCache es
+
+-- entries that a block with room for 2k of them can spell
+pub record FitsSnod (k : ℕ) (es : List SnodEntry) : Type 0 where
+  pub room : length es ≤ 2 * k
   pub caches : All IsCache es
 
 -- an entry as it is written: reserved bytes are 0

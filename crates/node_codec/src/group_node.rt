@@ -3,7 +3,7 @@ ghost use Rattle.std.specs.Int.{w64, to_le_bytes};
 ghost use Rattle.h5_base.specs.Fields.{Puts};
 ghost use Rattle.node_codec.specs.Cells.{woven};
 ghost use Rattle.node_codec.specs.TreeHead.{IsU64};
-ghost use Rattle.node_codec.specs.GroupNodes.{SpellsGroupNode, group_node_of, group_node_len, group_node_bytes};
+ghost use Rattle.node_codec.specs.GroupNodes.{SpellsGroupNode, FitsGroupNode, group_node_of, group_node_len, group_node_bytes};
 
 use crate::tree_head::{is_tree_node, put_tree_head};
 use h5_base::{CodecStop, List, put_u64, read_u64s, u16_of, u64_of};
@@ -36,6 +36,7 @@ fn node_size(k: u16) -> usize
 pub fn read_group_node(alloc: Global, bytes: &[u8], k: u16) -> Result<GroupNode, CodecStop>
     // What is read is spelled.
     ensures found { IfOk result (λ n. SpellsGroupNode k n bytes.now) }
+    ensures fits { IfOk result (λ n. FitsGroupNode k n) }
     // What is spelled is not refused.
     ensures only { result ≡ Err CodecStop.NotThis → (n : GroupNode) → ¬ SpellsGroupNode k n bytes.now }
 {
@@ -76,8 +77,7 @@ fn put_links(out: &mut [u8], at: usize, keys: &[u64], children: &[u64])
 /// Writes the node into its block, which has room for 2k children; unused cells are 0.
 pub fn write_group_node(n: &GroupNode, k: u16, out: &mut [u8])
     requires k { k ≤ 1024 }
-    requires children { length n.now.children ≤ 2 * k }
-    requires one_more { length n.now.keys ≡ length n.now.children + 1 }
+    requires counts { FitsGroupNode k n.now }
     requires room { length out.old ≡ group_node_len k }
     ensures bytes { out.new ≡ group_node_bytes k n.now }
     // What is written is read again.

@@ -2,11 +2,13 @@
 //! heaps.
 #![tactic(auto)]
 
+mod chunk_node;
 mod group_node;
 mod heap;
 mod snod;
 mod tree_head;
 
+pub use chunk_node::{ChunkKey, ChunkNode, read_chunk_node, write_chunk_node};
 pub use group_node::{GroupNode, read_group_node, write_group_node};
 pub use heap::{HeapHead, read_heap, write_heap};
 pub use snod::{SnodEntry, read_snod, write_snod};

@@ -1,7 +1,7 @@
 ghost use Rattle.std.specs.Prelude.{◌≡◌, ◌+◌, ◌*◌, ◌≤◌, ◌↔◌, List, length, map, flat_map, drop, take, All, IsTrue, IfOk};
 ghost use Rattle.h5_base.specs.Fields.{bytes_at, Puts};
 ghost use Rattle.node_codec.specs.Cells.{cells};
-ghost use Rattle.node_codec.specs.Snod.{SpellsSnod, IsSnod, IsCache, EntryInRange, entry_of, entries_of, entry_bytes, snod_bytes, snod_len};
+ghost use Rattle.node_codec.specs.Snod.{SpellsSnod, FitsSnod, soft_value_at, IsSnod, IsCache, EntryInRange, entry_of, entries_of, entry_bytes, snod_bytes, snod_len};
 
 use h5_base::{CodecStop, put_bytes, put_u16, put_u32, put_u64, u16_of, u32_of, u64_of};
 use std::alloc::Global;
@@ -19,6 +19,16 @@ pub struct SnodEntry {
     pub tree_at: u64,
     /// The last eight bytes of the scratch pad: with cache type 1 the address of the group's local heap.
     pub heap_at: u64,
+}
+
+impl SnodEntry {
+    /// The offset of a soft link's value in the group's local heap, which an entry of cache type 2 holds in the first
+    /// four bytes of its scratch pad.
+    pub fn soft_value_at(&self) -> u32
+        ensures { result ≡ soft_value_at self.now }
+    {
+        u32_of(&self.tree_at.to_le_bytes(), 0)
+    }
 }
 
 const SIGNATURE: [u8; 4] = *b"SNOD";
@@ -72,6 +82,7 @@ fn read_entries(alloc: Global, bytes: &[u8], count: usize) -> Result<Vec<SnodEnt
 pub fn read_snod(alloc: Global, bytes: &[u8], k: u16) -> Result<Vec<SnodEntry>, CodecStop>
     // What is read is spelled.
     ensures found { IfOk result (λ v. SpellsSnod k v.items bytes.now) }
+    ensures fits { IfOk result (λ v. FitsSnod k v.items) }
     // What is spelled is not refused.
     ensures only { result ≡ Err CodecStop.NotThis → (es : List SnodEntry) → ¬ SpellsSnod k es bytes.now }
 {
@@ -110,8 +121,7 @@ fn put_entries(out: &mut [u8], at: usize, entries: &[SnodEntry])
 /// cells are 0.
 pub fn write_snod(v: &Vec<SnodEntry>, k: u16, out: &mut [u8])
     requires k { k ≤ 1024 }
-    requires count { length v.now.items ≤ 2 * k }
-    requires caches { All IsCache v.now.items }
+    requires counts { FitsSnod k v.now.items }
     requires room { length out.old ≡ snod_len k }
     ensures bytes { out.new ≡ snod_bytes k v.now.items }
     // What is written is read again.

@@ -27,4 +27,4 @@ returns-clause-spelled c =
     let keys = rw c.as_slice.ensures at c.put_links.ensures.keys in
     let children = rw c.as_slice-2.ensures at c.put_links.ensures.children in
     rw (returns-clause-bytes c)
-    (group-spelled c.args.k c.args.n.now r.k r.children r.one_more c.put_tree_head.ensures.left c.put_tree_head.ensures.right keys children)
+    (group-spelled c.args.k c.args.n.now r.k r.counts c.put_tree_head.ensures.left c.put_tree_head.ensures.right keys children)

@@ -21,4 +21,4 @@ returns-clause-bytes c =
 pub returns-clause-spelled : goal.returns-clause-spelled
 returns-clause-spelled c =
     let r = c.requires in
-    rw (returns-clause-bytes c) (snod-spelled c.args.k c.args.v.now.items r.k r.count r.caches (rw c.as_slice-entries.ensures.value at c.put_entries.ensures.range))
+    rw (returns-clause-bytes c) (snod-spelled c.args.k c.args.v.now.items r.k r.counts (rw c.as_slice-entries.ensures.value at c.put_entries.ensures.range))
