@@ -95,6 +95,7 @@ same_node : (n : ChunkNode) (l a r : ℕ) (ks : List ChunkKey) (cs : List ℕ) �
 same_node n l a r ks cs e1 e2 e3 e4 e5 = rw (e1, e2, e3, e4, e5) refl
 
 pub chunk-len : (k rank : ℕ) (n : ChunkNode) → FitsChunkNode k rank n → ChunkKey → length (chunk_node_bytes k rank n) ≡ chunk_node_len k rank
+unfolding chunk_node_bytes
 chunk-len k rank n fits d =
     let head = tree_head 1 n.level (length n.children) n.left n.right in
     let links = woven (map chunk_key_bytes n.keys) (map number n.children) in
@@ -103,7 +104,7 @@ chunk-len k rank n fits d =
     (omega (arith, length-append head links, long, node-room k rank (length n.children) fits.room))
 
 pub chunk-spelled : (k rank : ℕ) (n : ChunkNode) → k ≤ 1024 → FitsChunkNode k rank n → IsU64 n.left → IsU64 n.right → All KeyInRange n.keys → All IsU64 n.children → SpellsChunkNode k rank n (chunk_node_bytes k rank n)
-unfolding u16_at u64_at
+unfolding u16_at u64_at chunk_node_bytes
 chunk-spelled k rank n small fits left right ranges children =
     let b = chunk_node_bytes k rank n in
     let w = chunk_key_len rank in

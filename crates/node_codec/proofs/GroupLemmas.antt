@@ -15,6 +15,7 @@ same_node : (n : GroupNode) (l a r : ℕ) (ks cs : List ℕ) → l ≡ n.level �
 same_node n l a r ks cs e1 e2 e3 e4 e5 = rw (e1, e2, e3, e4, e5) refl
 
 pub group-len : (k : ℕ) (n : GroupNode) → FitsGroupNode k n → length (group_node_bytes k n) ≡ group_node_len k
+unfolding group_node_bytes
 group-len k n fits =
     let head = tree_head 0 n.level (length n.children) n.left n.right in
     let links = woven (map number n.keys) (map number n.children) in
@@ -22,7 +23,7 @@ group-len k n fits =
     length-padded (group_node_len k) (head ++ links) (omega (arith, fits.room, length-append head links))
 
 pub group-spelled : (k : ℕ) (n : GroupNode) → k ≤ 1024 → FitsGroupNode k n → IsU64 n.left → IsU64 n.right → All IsU64 n.keys → All IsU64 n.children → SpellsGroupNode k n (group_node_bytes k n)
-unfolding u16_at u64_at
+unfolding u16_at u64_at group_node_bytes
 group-spelled k n small fits left right keys children =
     let b = group_node_bytes k n in
     let head = tree_head 0 n.level (length n.children) n.left n.right in

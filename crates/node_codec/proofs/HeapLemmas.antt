@@ -6,7 +6,7 @@ use Rattle.node_codec.specs.declared.heap.HeapHead.{HeapHead}
 use Rattle.node_codec.specs.Heap.{SpellsHeap, HeapInRange, heap_bytes}
 
 pub heap-spelled : (h : HeapHead) → HeapInRange h → SpellsHeap h (heap_bytes h)
-unfolding u64_at
+unfolding u64_at heap_bytes
 heap-spelled h r = record {
   block = record { len = refl; signature = refl; version = refl };
   value =

@@ -44,7 +44,7 @@ entry-undone e r =
     ) refl
 
 pub snod-spelled : (k : ℕ) (es : List SnodEntry) → k ≤ 1024 → FitsSnod k es → All EntryInRange es → SpellsSnod k es (snod_bytes k es)
-unfolding u16_at
+unfolding u16_at snod_bytes
 snod-spelled k es small fit ranges =
     let head : List ℕ = snod_signature ++ (1 ∷ 0 ∷ []) ++ to_le_bytes w16 (length es) in
     let used = head ++ flat_map entry_bytes es in

@@ -32,6 +32,6 @@ pub record FitsGroupNode (k : ℕ) (n : GroupNode) : Type 0 where
   pub one_more : length n.keys ≡ length n.children + 1
 
 -- the block that is written: unused cells are 0
-abbrev pub group_node_bytes : ℕ → GroupNode → List ℕ
+unfoldable pub group_node_bytes : ℕ → GroupNode → List ℕ
 group_node_bytes k n =
     padded (group_node_len k) (tree_head 0 n.level (length n.children) n.left n.right ++ woven (map (to_le_bytes w64) n.keys) (map (to_le_bytes w64) n.children))

@@ -29,7 +29,7 @@ pub record SpellsHeap (h : HeapHead) (b : List ℕ) : Type 0 where
   pub value : h ≡ heap_of b
 
 -- the block that is written: reserved bytes are 0
-abbrev pub heap_bytes : HeapHead → List ℕ
+unfoldable pub heap_bytes : HeapHead → List ℕ
 heap_bytes h =
     heap_signature ++ (0 ∷ 0 ∷ 0 ∷ 0 ∷ []) ++ to_le_bytes w64 h.len ++ to_le_bytes w64 h.free ++ to_le_bytes w64 h.segment_at
 

@@ -60,7 +60,7 @@ entry_bytes e =
     to_le_bytes w64 e.name_at ++ to_le_bytes w64 e.header_at ++ to_le_bytes w32 e.cache ++ (0 ∷ 0 ∷ 0 ∷ 0 ∷ []) ++ to_le_bytes w64 e.tree_at ++ to_le_bytes w64 e.heap_at
 
 -- the block that is written: reserved bytes and unused cells are 0
-abbrev pub snod_bytes : ℕ → List SnodEntry → List ℕ
+unfoldable pub snod_bytes : ℕ → List SnodEntry → List ℕ
 snod_bytes k es = padded (snod_len k) (snod_signature ++ (1 ∷ 0 ∷ []) ++ to_le_bytes w16 (length es) ++ flat_map entry_bytes es)
 
 -- the numbers fit their types

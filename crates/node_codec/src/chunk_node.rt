@@ -7,7 +7,9 @@ ghost use Rattle.node_codec.specs.ChunkNodes.{SpellsChunkNode, FitsChunkNode, Is
 
 use crate::tree_head::{is_tree_node, put_tree_head};
 use dtype::Dims;
-use h5_base::{CodecStop, List, NoMemory, put_u32, put_u64, put_u64s, read_u64s, u16_of, u32_of, u64_of};
+use h5_base::{
+    CodecStop, List, NoMemory, put_u32, put_u64, put_u64s, read_u64s, u16_of, u32_of, u64_of,
+};
 use std::alloc::Global;
 
 /// A key of a chunk index: the chunk that follows it, or a bound above the chunks before it.
@@ -96,7 +98,12 @@ fn are_whole_elements(bytes: &[u8], rank: u8, count: usize) -> bool
 
 /// The node that the block spells, which has room for 2k children and keys of this rank (HDF5 File Format
 /// Specification 3.0, III.A.1). Only the key behind the last child may have an offset within the element that is not 0.
-pub fn read_chunk_node(alloc: Global, bytes: &[u8], k: u16, rank: u8) -> Result<ChunkNode, CodecStop>
+pub fn read_chunk_node(
+    alloc: Global,
+    bytes: &[u8],
+    k: u16,
+    rank: u8,
+) -> Result<ChunkNode, CodecStop>
     // What is read is spelled.
     ensures found { IfOk result (λ n. SpellsChunkNode k rank n bytes.now) }
     ensures fits { IfOk result (λ n. FitsChunkNode k rank n) }

@@ -6,6 +6,8 @@ mod chunk_node;
 mod group_node;
 mod heap;
 mod snod;
+#[cfg(test)]
+mod tests;
 mod tree_head;
 
 pub use chunk_node::{ChunkKey, ChunkNode, read_chunk_node, write_chunk_node};

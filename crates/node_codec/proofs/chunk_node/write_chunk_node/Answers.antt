@@ -3,13 +3,14 @@ use Rattle.h5_base.specs.Fields.{Puts}
 use Rattle.h5_base.proofs.FieldLemmas.{puts_more}
 use Rattle.node_codec.specs.Cells.{woven}
 use Rattle.node_codec.specs.TreeHead.{tree_head}
-use Rattle.node_codec.specs.ChunkNodes.{chunk_key_bytes, chunk_key_len, chunk_node_len}
+use Rattle.node_codec.specs.ChunkNodes.{chunk_node_bytes, chunk_key_bytes, chunk_key_len, chunk_node_len}
 use Rattle.node_codec.proofs.NodeLemmas.{number}
 use Rattle.node_codec.proofs.PutLemmas.{puts-padded}
 use Rattle.node_codec.proofs.ChunkLemmas.{chunk-spelled, node-room}
 use Rattle.node_codec.proofs.chunk_node.write_chunk_node.Goals as goal
 
 pub returns-clause-bytes : goal.returns-clause-bytes
+unfolding chunk_node_bytes
 returns-clause-bytes c =
     let n = c.args.n.now in
     let zeros : c.fill.new.self ≡ replicate {A = ℕ} (chunk_node_len c.args.k c.args.rank) 0 =

@@ -10,6 +10,7 @@ use Rattle.node_codec.proofs.GroupLemmas.{group-spelled}
 use Rattle.node_codec.proofs.group_node.write_group_node.Goals as goal
 
 pub returns-clause-bytes : goal.returns-clause-bytes
+unfolding group_node_bytes
 returns-clause-bytes c =
     let n = c.args.n.now in
     let zeros : c.fill.new.self ≡ replicate {A = ℕ} (group_node_len c.args.k) 0 =

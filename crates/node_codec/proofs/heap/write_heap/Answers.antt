@@ -6,6 +6,7 @@ use Rattle.node_codec.proofs.HeapLemmas.{heap-spelled}
 use Rattle.node_codec.proofs.heap.write_heap.Goals as goal
 
 pub returns-clause-bytes : goal.returns-clause-bytes
+unfolding heap_bytes
 returns-clause-bytes c =
     puts-whole _ _ _
     (puts_more _ _ _ _ _ _ _ refl (puts_more _ _ _ _ _ _ _ refl (puts_more _ _ _ _ _ _ _ refl c.put_bytes.ensures c.put_u64.ensures) c.put_u64-2.ensures) c.put_u64-3.ensures)

@@ -9,6 +9,7 @@ use Rattle.node_codec.proofs.SnodLemmas.{snod-spelled}
 use Rattle.node_codec.proofs.snod.write_snod.Goals as goal
 
 pub returns-clause-bytes : goal.returns-clause-bytes
+unfolding snod_bytes
 returns-clause-bytes c =
     let es = c.args.v.now.items in
     let zeros : c.fill.new.self ≡ replicate {A = ℕ} (snod_len c.args.k) 0 =
