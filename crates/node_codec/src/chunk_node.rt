@@ -84,7 +84,7 @@ fn read_keys(alloc: Global, bytes: &[u8], rank: u8, count: usize) -> Result<Vec<
 
 /// Whether the offset within the element is 0 in the first `count` keys.
 fn are_whole_elements(bytes: &[u8], rank: u8, count: usize) -> bool
-    requires { 24 + (chunk_key_len rank + 8) * count ≤ length bytes.now }
+    requires { 24 + (chunk_key_len rank + 8) * count ≤ length bytes.now + 8 }
     ensures { IsTrue result ↔ All (IsWholeElement rank) (key_cells rank count bytes.now) }
 {
     let size = key_size(rank);
