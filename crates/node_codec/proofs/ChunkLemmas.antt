@@ -1,21 +1,21 @@
 -- The keys of a chunk index's node, and that a node that is written is spelled.
-use Rattle.std.proofs.Common.{◌≡◌, ℕ, ◌+◌, ◌-◌, ◌*◌, ◌^◌, ◌<◌, ◌≤◌, List, [], ◌∷◌, ◌++◌, length, take, drop, map, get_or, replicate, refl, sym, ap, subst, ◌∙◌, arith, length-append}
-use Rattle.std.specs.List.{flat_map, All}
-use Rattle.std.specs.Int.{w32, w64, from_le_bytes, to_le_bytes}
+use Rattle.std.proofs.Common.{◌≡◌, ℕ, ◌+◌, ◌-◌, ◌*◌, ◌<◌, ◌≤◌, List, [], ◌∷◌, ◌++◌, length, take, drop, map, get_or, replicate, refl, sym, ap, subst, ◌∙◌, arith, length-append}
+use Rattle.std.specs.List.{All}
+use Rattle.std.specs.Int.{w32, w64, to_le_bytes}
 use Rattle.std.proofs.Math.Nat.{mul-le-mul_left}
-use Rattle.std.proofs.lemmas.List.{length-map, drop-drop, drop-take, take-take, take_at, map_push}
+use Rattle.std.proofs.lemmas.List.{length-map, drop-drop, drop-take, take-take, take_at}
 use Rattle.std.proofs.lemmas.List.Elements.{All-map, All-take}
 use Rattle.std.proofs.lemmas.Nat.{from_le_bytes-to_le_bytes_2, from_le_bytes-to_le_bytes_4, from_le_bytes-to_le_bytes_8}
 use Rattle.h5_base.specs.Fields.{bytes_at, u16_at, u32_at, u64_at, u64s_at, u64s_bytes}
 use Rattle.h5_base.proofs.FieldLemmas.{u64_at-past, length-u64s_bytes}
 use Rattle.node_codec.specs.declared.chunk_node.ChunkNode.{ChunkNode}
 use Rattle.node_codec.specs.declared.chunk_node.ChunkKey.{ChunkKey}
-use Rattle.node_codec.specs.Cells.{cells, woven, padded}
+use Rattle.node_codec.specs.Cells.{cells, woven}
 use Rattle.node_codec.specs.TreeHead.{IsTreeNode, IsU64, used_of, tree_head}
-use Rattle.node_codec.specs.ChunkNodes.{SpellsChunkNode, FitsChunkNode, IsWholeElement, HasRank, KeyInRange, chunk_key_of, chunk_key_len, key_cells, chunk_key_bytes, chunk_node_of, chunk_node_len, chunk_node_bytes}
+use Rattle.node_codec.specs.ChunkNodes.{SpellsChunkNode, FitsChunkNode, IsWholeElement, HasRank, KeyInRange, chunk_key_of, chunk_key_len, key_cells, chunk_key_bytes, chunk_node_len, chunk_node_bytes}
 use Rattle.node_codec.proofs.CellLemmas.{cells-more, cells-at, cells-rows, length-cells, map-undone, u64s_at-cells}
 use Rattle.node_codec.proofs.PutLemmas.{length-padded}
-use Rattle.node_codec.proofs.NodeLemmas.{length-u64s_at, number, node, keys-cells, children-read, numbers-undone, length-all-links}
+use Rattle.node_codec.proofs.NodeLemmas.{length-u64s_at, number, keys-cells, children-read, numbers-undone, length-all-links}
 
 -- what is used lies within the node
 pub node-room : (k rank used : ℕ) → used ≤ 2 * k → 24 + (chunk_key_len rank + 8) * used + chunk_key_len rank ≤ chunk_node_len k rank

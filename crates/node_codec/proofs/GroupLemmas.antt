@@ -1,15 +1,14 @@
 -- A group's node that is written is spelled.
-use Rattle.std.proofs.Common.{◌≡◌, ℕ, ◌+◌, ◌*◌, ◌^◌, ◌<◌, ◌≤◌, List, ◌++◌, length, take, map, replicate, refl, sym, ap, ◌∙◌, arith, ◌-◌, length-append}
+use Rattle.std.proofs.Common.{◌≡◌, ℕ, ◌+◌, ◌*◌, ◌≤◌, List, ◌++◌, length, map, replicate, refl, ap, ◌∙◌, arith, ◌-◌, length-append}
 use Rattle.std.specs.List.{All}
-use Rattle.std.proofs.lemmas.List.{take_all}
 use Rattle.std.proofs.lemmas.Nat.{from_le_bytes-to_le_bytes_2, from_le_bytes-to_le_bytes_8}
 use Rattle.h5_base.specs.Fields.{u16_at, u64_at, u64s_at}
 use Rattle.node_codec.specs.declared.group_node.GroupNode.{GroupNode}
-use Rattle.node_codec.specs.Cells.{woven, padded}
-use Rattle.node_codec.specs.TreeHead.{IsTreeNode, IsU64, used_of, tree_head}
+use Rattle.node_codec.specs.Cells.{woven}
+use Rattle.node_codec.specs.TreeHead.{IsU64, used_of, tree_head}
 use Rattle.node_codec.specs.GroupNodes.{SpellsGroupNode, FitsGroupNode, group_node_bytes, group_node_len}
 use Rattle.node_codec.proofs.PutLemmas.{length-padded}
-use Rattle.node_codec.proofs.NodeLemmas.{length-u64s_at, number, node, keys-cells, children-read, numbers-read, length-all-links}
+use Rattle.node_codec.proofs.NodeLemmas.{length-u64s_at, number, children-read, numbers-read, length-all-links}
 
 same_node : (n : GroupNode) (l a r : ℕ) (ks cs : List ℕ) → l ≡ n.level → a ≡ n.left → r ≡ n.right → ks ≡ n.keys → cs ≡ n.children → n ≡ record { level = l; left = a; right = r; keys = ks; children = cs }
 same_node n l a r ks cs e1 e2 e3 e4 e5 = rw (e1, e2, e3, e4, e5) refl

@@ -1,5 +1,5 @@
 -- A heap's header that is written is spelled.
-use Rattle.std.proofs.Common.{◌≡◌, ℕ, refl, sym, arith}
+use Rattle.std.proofs.Common.{refl, sym}
 use Rattle.std.proofs.lemmas.Nat.{from_le_bytes-to_le_bytes_8}
 use Rattle.h5_base.specs.Fields.{u64_at}
 use Rattle.node_codec.specs.declared.heap.HeapHead.{HeapHead}

@@ -1,5 +1,5 @@
 -- Blocks that were written whole.
-use Rattle.std.proofs.Common.{◌≡◌, ℕ, ◌+◌, ◌-◌, ◌≤◌, List, [], ◌∷◌, ◌++◌, length, take, drop, refl, sym, ap, ◌∙◌, arith, length-append, zero-add, replicate}
+use Rattle.std.proofs.Common.{◌≡◌, ℕ, ◌-◌, ◌≤◌, List, length, take, drop, refl, sym, ◌∙◌, arith, length-append, zero-add, replicate}
 use Rattle.std.proofs.lemmas.List.{take_all, take-append-drop, drop-replicate, length-replicate}
 use Rattle.h5_base.specs.Fields.{Puts}
 use Rattle.node_codec.specs.Cells.{padded}

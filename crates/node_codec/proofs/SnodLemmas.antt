@@ -7,8 +7,8 @@ use Rattle.std.proofs.lemmas.List.{drop-drop, length-map, map_push, get_or-map, 
 use Rattle.std.proofs.lemmas.Nat.{from_le_bytes-to_le_bytes_2, from_le_bytes-to_le_bytes_4, from_le_bytes-to_le_bytes_8}
 use Rattle.h5_base.specs.Fields.{bytes_at, u16_at, u32_at, u64_at}
 use Rattle.node_codec.specs.declared.snod.SnodEntry.{SnodEntry}
-use Rattle.node_codec.specs.Cells.{cells, padded}
-use Rattle.node_codec.specs.Snod.{SpellsSnod, FitsSnod, EntryInRange, IsCache, entry_of, entries_of, entry_bytes, snod_bytes, snod_len, snod_signature}
+use Rattle.node_codec.specs.Cells.{cells}
+use Rattle.node_codec.specs.Snod.{SpellsSnod, FitsSnod, EntryInRange, entry_of, entries_of, entry_bytes, snod_bytes, snod_len, snod_signature}
 use Rattle.node_codec.proofs.CellLemmas.{cells-more, cells-at, cells-rows, length-cells, map-undone}
 use Rattle.node_codec.proofs.PutLemmas.{length-padded}
 

@@ -1,6 +1,6 @@
 -- A node of a chunk index, by the HDF5 File Format Specification 3.0, III.A.1.
 -- Cited by `read_chunk_node`, `write_chunk_node` and whatever says what a dataset's blocks hold.
-use Rattle.std.specs.Prelude.{◌≡◌, ℕ, ◌+◌, ◌*◌, ◌^◌, ◌<◌, ◌≤◌, List, [], ◌∷◌, ◌++◌, length, take, drop, map, slice_index, All}
+use Rattle.std.specs.Prelude.{◌≡◌, ℕ, ◌+◌, ◌*◌, ◌^◌, ◌<◌, ◌≤◌, List, ◌++◌, length, drop, map, slice_index, All}
 use Rattle.std.specs.Int.{w32, w64, to_le_bytes}
 use Rattle.h5_base.specs.Fields.{u32_at, u64_at, u64s_at, u64s_bytes}
 use Rattle.node_codec.specs.Cells.{cells, woven, padded}

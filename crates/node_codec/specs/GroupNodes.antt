@@ -1,6 +1,6 @@
 -- A node of a group's B-tree, by the HDF5 File Format Specification 3.0, III.A.1.
 -- Cited by `read_group_node`, `write_group_node` and whatever says what a group's blocks hold.
-use Rattle.std.specs.Prelude.{◌≡◌, ℕ, ◌+◌, ◌*◌, ◌≤◌, List, [], ◌∷◌, ◌++◌, length, take, map, slice_index}
+use Rattle.std.specs.Prelude.{◌≡◌, ℕ, ◌+◌, ◌*◌, ◌≤◌, List, ◌++◌, length, map, slice_index}
 use Rattle.std.specs.Int.{w64, to_le_bytes}
 use Rattle.h5_base.specs.Fields.{u64_at, u64s_at}
 use Rattle.node_codec.specs.Cells.{woven, padded}

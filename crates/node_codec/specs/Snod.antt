@@ -1,6 +1,6 @@
 -- The symbol table node, by the HDF5 File Format Specification 3.0, III.B and III.C.
 -- Cited by `read_snod`, `write_snod` and whatever says what a group's blocks hold.
-use Rattle.std.specs.Prelude.{◌≡◌, ℕ, ◌+◌, ◌*◌, ◌^◌, ◌%◌, ◌<◌, ◌≤◌, List, [], ◌∷◌, ◌++◌, length, take, drop, map, flat_map, replicate, slice_index, All}
+use Rattle.std.specs.Prelude.{◌≡◌, ℕ, ◌+◌, ◌*◌, ◌^◌, ◌<◌, ◌≤◌, List, [], ◌∷◌, ◌++◌, length, take, drop, map, flat_map, slice_index, All}
 use Rattle.std.specs.Int.{w16, w32, w64, to_le_bytes}
 use Rattle.h5_base.specs.Fields.{u16_at, u32_at, u64_at}
 use Rattle.node_codec.specs.Cells.{cells, padded}

@@ -1,4 +1,4 @@
-use Rattle.std.proofs.Common.{◌≡◌, ◌+◌, ◌*◌, ◌<◌, ◌≤◌, List, ◌++◌, length, take, map, get_or, refl, sym, subst, arith}
+use Rattle.std.proofs.Common.{◌≡◌, ◌+◌, ◌*◌, ◌<◌, length, take, map, get_or, sym, subst, arith}
 use Rattle.std.specs.List.{All}
 use Rattle.std.proofs.lemmas.List.{take_all}
 use Rattle.std.proofs.lemmas.List.Elements.{All-from_get_or, All-more}
@@ -6,7 +6,6 @@ use Rattle.h5_base.specs.Fields.{Puts}
 use Rattle.h5_base.proofs.FieldLemmas.{puts_more}
 use Rattle.node_codec.specs.Cells.{woven}
 use Rattle.node_codec.specs.TreeHead.{IsU64}
-use Rattle.node_codec.specs.declared.chunk_node.ChunkKey.{ChunkKey}
 use Rattle.node_codec.specs.ChunkNodes.{HasRank, KeyInRange, chunk_key_bytes, chunk_key_len}
 use Rattle.node_codec.proofs.NodeLemmas.{number, length-links, links-more, links-last}
 use Rattle.node_codec.proofs.ChunkLemmas.{length-key, keys-wide}

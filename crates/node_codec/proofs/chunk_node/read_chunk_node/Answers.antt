@@ -1,4 +1,4 @@
-use Rattle.std.proofs.Common.{◌≡◌, ◌+◌, ◌*◌, ◌≤◌, length, map, refl, ap, ◌∙◌, arith}
+use Rattle.std.proofs.Common.{◌≡◌, ◌+◌, map, refl, ap, ◌∙◌, arith}
 use Rattle.h5_base.specs.Fields.{u64s_at}
 use Rattle.node_codec.specs.TreeHead.{used_of}
 use Rattle.node_codec.specs.ChunkNodes.{chunk_key_of, chunk_key_len, key_cells}

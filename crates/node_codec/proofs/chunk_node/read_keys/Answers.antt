@@ -1,7 +1,7 @@
-use Rattle.std.proofs.Common.{◌≡◌, ◌+◌, ◌-◌, ◌*◌, map, refl, arith}
+use Rattle.std.proofs.Common.{◌≡◌, ◌+◌, ◌-◌, ◌*◌, refl, arith}
 use Rattle.std.proofs.lemmas.List.{map_push}
 use Rattle.h5_base.specs.Fields.{bytes_at}
-use Rattle.node_codec.specs.ChunkNodes.{chunk_key_of, chunk_key_len, key_cells}
+use Rattle.node_codec.specs.ChunkNodes.{chunk_key_of, chunk_key_len}
 use Rattle.node_codec.proofs.ChunkLemmas.{key_cells-more}
 use Rattle.node_codec.proofs.chunk_node.read_keys.Goals as goal
 

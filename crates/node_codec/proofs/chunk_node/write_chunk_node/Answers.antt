@@ -1,9 +1,9 @@
-use Rattle.std.proofs.Common.{◌≡◌, ℕ, ◌+◌, List, ◌++◌, length, map, replicate, refl, sym, ap, ◌∙◌, arith}
+use Rattle.std.proofs.Common.{◌≡◌, ℕ, length, map, replicate, refl, ap, ◌∙◌, arith}
 use Rattle.h5_base.specs.Fields.{Puts}
 use Rattle.h5_base.proofs.FieldLemmas.{puts_more}
 use Rattle.node_codec.specs.Cells.{woven}
 use Rattle.node_codec.specs.TreeHead.{tree_head}
-use Rattle.node_codec.specs.ChunkNodes.{chunk_node_bytes, chunk_key_bytes, chunk_key_len, chunk_node_len}
+use Rattle.node_codec.specs.ChunkNodes.{chunk_node_bytes, chunk_key_bytes, chunk_node_len}
 use Rattle.node_codec.proofs.NodeLemmas.{number}
 use Rattle.node_codec.proofs.PutLemmas.{puts-padded}
 use Rattle.node_codec.proofs.ChunkLemmas.{chunk-spelled, node-room}

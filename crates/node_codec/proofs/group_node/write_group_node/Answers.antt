@@ -1,4 +1,4 @@
-use Rattle.std.proofs.Common.{◌≡◌, ℕ, ◌+◌, List, ◌++◌, length, map, replicate, refl, sym, ap, ◌∙◌, arith}
+use Rattle.std.proofs.Common.{◌≡◌, ℕ, length, map, replicate, refl, ap, ◌∙◌}
 use Rattle.h5_base.specs.Fields.{Puts}
 use Rattle.h5_base.proofs.FieldLemmas.{puts_more}
 use Rattle.node_codec.specs.Cells.{woven}

@@ -1,6 +1,6 @@
-use Rattle.std.proofs.Common.{◌≡◌, length, refl, arith}
+use Rattle.std.proofs.Common.{refl, arith}
 use Rattle.h5_base.proofs.FieldLemmas.{puts_more}
-use Rattle.node_codec.specs.Heap.{SpellsHeap, heap_bytes}
+use Rattle.node_codec.specs.Heap.{heap_bytes}
 use Rattle.node_codec.proofs.PutLemmas.{puts-whole}
 use Rattle.node_codec.proofs.HeapLemmas.{heap-spelled}
 use Rattle.node_codec.proofs.heap.write_heap.Goals as goal

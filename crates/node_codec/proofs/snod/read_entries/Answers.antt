@@ -1,7 +1,6 @@
-use Rattle.std.proofs.Common.{◌≡◌, ◌+◌, ◌*◌, ◌<◌, ◌≤◌, length, get_or, arith, sym, refl, subst, ◌∙◌}
+use Rattle.std.proofs.Common.{◌≡◌, get_or, arith, sym, refl, subst, ◌∙◌}
 use Rattle.std.proofs.lemmas.List.Elements.{All-push}
-use Rattle.h5_base.specs.Fields.{bytes_at}
-use Rattle.node_codec.specs.Snod.{IsCache, entry_of, entries_of}
+use Rattle.node_codec.specs.Snod.{IsCache, entries_of}
 use Rattle.node_codec.proofs.SnodLemmas.{entries_of-more, entries_of-at, length-entries_of}
 use Rattle.node_codec.proofs.snod.read_entries.Goals as goal
 
