@@ -1,0 +1,3 @@
+pub mod Headers
+pub mod Fills
+pub mod Layouts
