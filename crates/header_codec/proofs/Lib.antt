@@ -1,1 +1,3 @@
 pub mod SizeLaws
+pub mod MessageLaws
+pub mod PartLaws

@@ -1,3 +1,4 @@
 pub mod Headers
 pub mod Fills
 pub mod Layouts
+pub mod Written

@@ -6,6 +6,7 @@ mod fill_codec;
 mod headers;
 mod layout_codec;
 mod types;
+mod writing;
 
 pub use fill_codec::read_fill;
 pub use headers::{read_message, read_prefix};
