@@ -5,6 +5,8 @@
 mod fill_codec;
 mod headers;
 mod layout_codec;
+#[cfg(test)]
+mod tests;
 mod types;
 mod writing;
 
@@ -12,3 +14,4 @@ pub use fill_codec::read_fill;
 pub use headers::{read_message, read_prefix};
 pub use layout_codec::{is_chunk, read_layout};
 pub use types::{Fill, Layout, Message, NewHeader, Prefix};
+pub use writing::write_header;

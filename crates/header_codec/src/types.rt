@@ -1,3 +1,8 @@
+ghost use Rattle.std.specs.Prelude.{◌↔◌, IsTrue};
+ghost use Rattle.dtype.specs.Shapes.{IsShape};
+ghost use Rattle.header_codec.specs.Written.{HasHeader, IsFillValue, IsLayout};
+
+use crate::layout_codec::is_chunk;
 use dtype::{Dims, ElemType, Shape};
 use h5_base::Bytes;
 
@@ -58,4 +63,50 @@ pub enum NewHeader {
         fill: Fill,
         layout: Layout,
     },
+}
+
+impl NewHeader {
+    /// Whether each of its messages has a spelling: a group always; a dataset of at most 32 dimensions and as many
+    /// maximum sizes, whose elements are integers of 1, 2, 4 or 8 bytes or strings of 1 to 65,535, with a fill value of 1
+    /// to 65,520 bytes or none, and sizes of a chunk where it is chunked.
+    pub fn is_writable(&self) -> bool
+        ensures { IsTrue result ↔ HasHeader self.now }
+    {
+        match self {
+            NewHeader::Group { .. } => true,
+            NewHeader::Dataset {
+                space,
+                elem,
+                fill,
+                layout,
+            } => is_shape(space) && elem.is_valid() && is_fill_value(fill) && is_layout(layout),
+        }
+    }
+}
+
+fn is_shape(space: &Shape) -> bool
+    ensures { IsTrue result ↔ IsShape space.now }
+{
+    match &space.max {
+        None => space.dims.len() <= 32,
+        Some(max) => space.dims.len() <= 32 && max.len() == space.dims.len(),
+    }
+}
+
+fn is_fill_value(fill: &Fill) -> bool
+    ensures { IsTrue result ↔ IsFillValue fill.now }
+{
+    match fill {
+        Fill::Zeros => true,
+        Fill::Value(value) => 1 <= value.len() && value.len() <= 65_520,
+    }
+}
+
+fn is_layout(layout: &Layout) -> bool
+    ensures { IsTrue result ↔ IsLayout layout.now }
+{
+    match layout {
+        Layout::Contiguous { .. } => true,
+        Layout::Chunked { sizes, .. } => is_chunk(sizes.as_slice()),
+    }
 }
