@@ -1,4 +1,5 @@
-use Rattle.std.proofs.Common.{◌≡◌, ℕ, List, ◌++◌, ◌∙◌, ap, subst, arith}
+use Rattle.std.proofs.Common.{[], ◌≡◌, ℕ, List, ◌++◌, ◌∙◌, ap, subst, arith}
+use Rattle.std.proofs.lemmas.List.{append-nil}
 use Rattle.std.proofs.lemmas.Result.{IfOk-weaker}
 use Rattle.dtype.specs.declared.types.Shape.{Shape}
 use Rattle.dtype.specs.Shapes.{shape_bytes, SpellsShape}
@@ -28,5 +29,5 @@ Spelled s b = SpellsShape s b
 
 pub returns-clause-told : goal.returns-clause-told
 returns-clause-told c =
-    let told = subst (Spelled c.args.shape.now) c.in_ok-body.ensures.bytes (c.in_ok-body.ensures.spelled c.requires) in
+    let told = subst (Spelled c.args.shape.now) (append-nil c.in_ok-body.body ∙ c.in_ok-body.ensures.bytes) (c.in_ok-body.ensures.spelled c.requires []) in
     IfOk-weaker c.append_message.result _ _ (λ _ _. shape_filled c.args.shape.now c.requires told) c.append_message.ensures
