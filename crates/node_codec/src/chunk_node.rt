@@ -1,9 +1,9 @@
-ghost use Rattle.std.specs.Prelude.{◌≡◌, ◌+◌, ◌*◌, ◌≤◌, List, length, map, drop, All, IfOk, IsTrue, ◌↔◌};
+ghost use Rattle.std.specs.Prelude.{◌≡◌, ◌+◌, ◌*◌, ◌≤◌, length, map, All, IfOk, IsTrue, ◌↔◌};
 ghost use Rattle.std.specs.Int.{w64, to_le_bytes};
-ghost use Rattle.h5_base.specs.Fields.{bytes_at, Puts};
+ghost use Rattle.h5_base.specs.Fields.{Puts};
 ghost use Rattle.node_codec.specs.Cells.{woven};
 ghost use Rattle.node_codec.specs.TreeHead.{IsU64};
-ghost use Rattle.node_codec.specs.ChunkNodes.{SpellsChunkNode, FitsChunkNode, IsWholeElement, HasRank, KeyInRange, chunk_key_of, chunk_key_len, key_cells, chunk_key_bytes, chunk_node_of, chunk_node_len, chunk_node_bytes};
+ghost use Rattle.node_codec.specs.ChunkNodes.{SpellsChunkNode, FitsChunkNode, IsWholeElement, HasRank, KeyInRange, chunk_key_of, chunk_key_len, key_cells, chunk_key_bytes, chunk_node_len, chunk_node_bytes};
 
 use crate::tree_head::{is_tree_node, put_tree_head};
 use dtype::Dims;
@@ -12,7 +12,7 @@ use h5_base::{
 };
 use std::alloc::Global;
 
-/// A key of a chunk index: the chunk that follows it, or a bound above the chunks before it.
+/// A key of a chunk index: the first chunk under the child that follows it, or a bound above the chunks before it.
 #[derive(Debug, Drop)]
 pub struct ChunkKey {
     /// The bytes of the chunk as it is stored.
@@ -23,7 +23,8 @@ pub struct ChunkKey {
     pub offset: Dims,
 }
 
-/// A node of the B-tree of a dataset's chunks. It has one key more than it has children.
+/// A node of the B-tree of a dataset's chunks (HDF5 File Format Specification 3.0, III.A.1). It has one key more than it
+/// has children.
 #[derive(Debug, Drop)]
 pub struct ChunkNode {
     /// 0 where the children are chunks, else one more than the children's level.
@@ -32,8 +33,9 @@ pub struct ChunkNode {
     pub left: u64,
     /// The address of the node to the right on this level, all ones where there is none.
     pub right: u64,
+    /// Key i tells of the first chunk under child i, and the last key lies above every chunk under the last child.
     pub keys: List<ChunkKey>,
-    /// Addresses of nodes or of chunks.
+    /// Addresses of chunks, or of nodes of the level below.
     pub children: List<u64>,
 }
 
@@ -44,8 +46,9 @@ fn key_size(rank: u8) -> usize
     16 + 8 * rank as usize
 }
 
-/// The bytes of a node with room for 2k children.
-fn node_size(k: u16, rank: u8) -> usize
+/// The bytes of the block of a chunk node that has room for 2k children and keys of this rank, 2616 for a K of 32 and
+/// rank 2.
+pub fn chunk_node_size(k: u16, rank: u8) -> usize
     ensures { result ≡ chunk_node_len k rank }
 {
     let k = k as usize;
@@ -96,8 +99,10 @@ fn are_whole_elements(bytes: &[u8], rank: u8, count: usize) -> bool
     true
 }
 
-/// The node that the block spells, which has room for 2k children and keys of this rank (HDF5 File Format
-/// Specification 3.0, III.A.1). Only the key behind the last child may have an offset within the element that is not 0.
+/// The node that the whole block spells, which has room for 2k children and keys of this rank. `NotThis` comes exactly
+/// where it spells none: another length, signature or node type, more than 2k entries used, or an offset within the
+/// element other than 0 in a key beside a child. In the key behind the last child that offset may be anything, and no
+/// value holds it. Cells past the used ones aren't looked at.
 pub fn read_chunk_node(
     alloc: Global,
     bytes: &[u8],
@@ -110,7 +115,7 @@ pub fn read_chunk_node(
     // What is spelled is not refused.
     ensures only { result ≡ Err CodecStop.NotThis → (n : ChunkNode) → ¬ SpellsChunkNode k rank n bytes.now }
 {
-    if !is_tree_node(bytes, 1, k, node_size(k, rank)) {
+    if !is_tree_node(bytes, 1, k, chunk_node_size(k, rank)) {
         return Err(CodecStop::NotThis);
     }
     let used = u16_of(bytes, 6) as usize;
@@ -171,8 +176,8 @@ fn put_chunks(out: &mut [u8], at: usize, rank: u8, keys: &[ChunkKey], children: 
     put_key(out, at + (size + 8) * children.len(), &keys[children.len()]);
 }
 
-/// Writes the node into its block, which has room for 2k children and keys of this rank; unused cells are 0, and so is
-/// the offset within the element in each key.
+/// Writes the node into its whole block, which has room for 2k children and keys of this rank; unused cells are 0, and
+/// so is the offset within the element in each key. It takes no memory.
 pub fn write_chunk_node(n: &ChunkNode, k: u16, rank: u8, out: &mut [u8])
     requires k { k ≤ 1024 }
     requires counts { FitsChunkNode k rank n.now }

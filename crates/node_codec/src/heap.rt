@@ -1,9 +1,10 @@
 ghost use Rattle.std.specs.Prelude.{◌≡◌, ◌↔◌, length, IsTrue, IfSome};
-ghost use Rattle.node_codec.specs.Heap.{IsHeap, SpellsHeap, HeapInRange, heap_of, heap_bytes};
+ghost use Rattle.node_codec.specs.Heap.{IsHeap, SpellsHeap, HeapInRange, heap_bytes};
 
 use h5_base::{put_bytes, put_u64, u64_of};
 
-/// The header of a group's local heap, which tells where the names of the group's links stand.
+/// The header of a group's local heap, which tells where the names of the group's links stand (HDF5 File Format
+/// Specification 3.0, III.D).
 #[derive(Clone, Copy, Debug, PartialEq, Eq)]
 pub struct HeapHead {
     /// The bytes of the data segment.
@@ -22,8 +23,8 @@ fn is_heap(bytes: &[u8]) -> bool
     bytes.len() == 32 && &bytes[..4] == SIGNATURE.as_slice() && bytes[4] == 0
 }
 
-/// The header of a local heap that these 32 bytes spell (HDF5 File Format Specification 3.0, III.D); none where they
-/// spell none.
+/// The header that the bytes spell, none exactly where they spell none: another length than 32, signature or version.
+/// The reserved bytes behind the version aren't looked at.
 pub fn read_heap(bytes: &[u8]) -> Option<HeapHead>
     // What is read is spelled.
     ensures found { IfSome result (λ h. SpellsHeap h bytes.now) }
@@ -44,7 +45,7 @@ fn in_range(h: HeapHead)
     ensures { HeapInRange h }
 {}
 
-/// Writes the header of a local heap into the 32 bytes of its block; reserved bytes are 0.
+/// Writes the header into the 32 bytes of its block; reserved bytes are 0. It takes no memory.
 pub fn write_heap(h: &HeapHead, out: &mut [u8])
     requires { length out.old ≡ 32 }
     ensures bytes { out.new ≡ heap_bytes h.now }

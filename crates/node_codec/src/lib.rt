@@ -10,7 +10,7 @@ mod snod;
 mod tests;
 mod tree_head;
 
-pub use chunk_node::{ChunkKey, ChunkNode, read_chunk_node, write_chunk_node};
-pub use group_node::{GroupNode, read_group_node, write_group_node};
+pub use chunk_node::{ChunkKey, ChunkNode, chunk_node_size, read_chunk_node, write_chunk_node};
+pub use group_node::{GroupNode, group_node_size, read_group_node, write_group_node};
 pub use heap::{HeapHead, read_heap, write_heap};
-pub use snod::{SnodEntry, read_snod, write_snod};
+pub use snod::{SnodEntry, read_snod, snod_size, write_snod};

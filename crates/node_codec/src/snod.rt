@@ -1,12 +1,11 @@
-ghost use Rattle.std.specs.Prelude.{◌≡◌, ◌+◌, ◌*◌, ◌≤◌, ◌↔◌, List, length, map, flat_map, drop, take, All, IsTrue, IfOk};
+ghost use Rattle.std.specs.Prelude.{◌≡◌, ◌+◌, ◌*◌, ◌≤◌, ◌↔◌, List, length, flat_map, All, IsTrue, IfOk};
 ghost use Rattle.h5_base.specs.Fields.{bytes_at, Puts};
-ghost use Rattle.node_codec.specs.Cells.{cells};
 ghost use Rattle.node_codec.specs.Snod.{SpellsSnod, FitsSnod, soft_value_at, IsSnod, IsCache, EntryInRange, entry_of, entries_of, entry_bytes, snod_bytes, snod_len};
 
 use h5_base::{CodecStop, put_bytes, put_u16, put_u32, put_u64, u16_of, u32_of, u64_of};
 use std::alloc::Global;
 
-/// An entry of a symbol table node: a link of a group.
+/// An entry of a symbol table node: a link of a group (HDF5 File Format Specification 3.0, III.C).
 #[derive(Clone, Copy, Debug, PartialEq, Eq)]
 pub struct SnodEntry {
     /// The offset of the link's name in the group's local heap.
@@ -33,10 +32,17 @@ impl SnodEntry {
 
 const SIGNATURE: [u8; 4] = *b"SNOD";
 
+/// The bytes of the block of a symbol table node that has room for 2k entries, 328 for a leaf K of 4.
+pub fn snod_size(k: u16) -> usize
+    ensures { result ≡ snod_len k }
+{
+    8 + 80 * k as usize
+}
+
 fn is_snod(bytes: &[u8], k: u16) -> bool
     ensures { IsTrue result ↔ IsSnod k bytes.now }
 {
-    bytes.len() == 8 + 80 * k as usize
+    bytes.len() == snod_size(k)
         && &bytes[..4] == SIGNATURE.as_slice()
         && bytes[4] == 1
         && u16_of(bytes, 6) as usize <= 2 * k as usize
@@ -77,8 +83,9 @@ fn read_entries(alloc: Global, bytes: &[u8], count: usize) -> Result<Vec<SnodEnt
     Ok(entries)
 }
 
-/// The entries of the symbol table node that the block spells, which has room for 2k of them (HDF5 File Format
-/// Specification 3.0, III.B and III.C). A cache type other than 0, 1 and 2 is none of this node's.
+/// The entries of the symbol table node that the whole block spells, which has room for 2k of them (HDF5 File Format
+/// Specification 3.0, III.B). `NotThis` comes exactly where it spells none: another length, signature or version, more
+/// than 2k entries, or a cache type other than 0, 1 and 2. Reserved bytes and cells past the used ones aren't looked at.
 pub fn read_snod(alloc: Global, bytes: &[u8], k: u16) -> Result<Vec<SnodEntry>, CodecStop>
     // What is read is spelled.
     ensures found { IfOk result (λ v. SpellsSnod k v.items bytes.now) }
@@ -117,8 +124,8 @@ fn put_entries(out: &mut [u8], at: usize, entries: &[SnodEntry])
     }
 }
 
-/// Writes the entries into the block of a symbol table node, which has room for 2k of them; reserved bytes and unused
-/// cells are 0.
+/// Writes the entries into the whole block of a symbol table node, which has room for 2k of them; reserved bytes and
+/// unused cells are 0. It takes no memory.
 pub fn write_snod(v: &Vec<SnodEntry>, k: u16, out: &mut [u8])
     requires k { k ≤ 1024 }
     requires counts { FitsSnod k v.now.items }

@@ -1,5 +1,3 @@
-ghost use Rattle.std.specs.Prelude.{◌≡◌, IfOk};
-
 use crate::*;
 use h5_base::CodecStop;
 use std::alloc::Global;

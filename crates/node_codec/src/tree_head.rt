@@ -1,7 +1,5 @@
-ghost use Rattle.std.specs.Prelude.{◌≡◌, ◌+◌, ◌*◌, ◌≤◌, ◌↔◌, length, map, IsTrue};
-ghost use Rattle.std.specs.Int.{w64, to_le_bytes};
+ghost use Rattle.std.specs.Prelude.{◌≤◌, ◌↔◌, length, IsTrue};
 ghost use Rattle.h5_base.specs.Fields.{Puts};
-ghost use Rattle.node_codec.specs.Cells.{woven};
 ghost use Rattle.node_codec.specs.TreeHead.{IsTreeNode, IsU64, tree_head};
 
 use h5_base::{put_bytes, put_u16, put_u64, u16_of};

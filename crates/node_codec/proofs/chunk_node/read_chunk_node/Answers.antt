@@ -7,16 +7,16 @@ use Rattle.node_codec.proofs.chunk_node.read_chunk_node.Goals as goal
 
 pub are_whole_elements-requires : goal.are_whole_elements-requires
 are_whole_elements-requires c =
-    omega (arith, used-inside c.args.k c.args.rank _ _ _ (c.if-not-is_tree_node.ensures.0 refl) c.node_size.ensures c.u16_of-used.ensures)
+    omega (arith, used-inside c.args.k c.args.rank _ _ _ (c.if-not-is_tree_node.ensures.0 refl) c.chunk_node_size.ensures c.u16_of-used.ensures)
 
 pub read_keys-requires : goal.read_keys-requires
 read_keys-requires c =
-    omega (arith, used-inside c.args.k c.args.rank _ _ _ (c.if-not-is_tree_node.ensures.0 refl) c.node_size.ensures c.u16_of-used.ensures)
+    omega (arith, used-inside c.args.k c.args.rank _ _ _ (c.if-not-is_tree_node.ensures.0 refl) c.chunk_node_size.ensures c.u16_of-used.ensures)
 
 pub read_u64s-requires-clause-inside : goal.read_u64s-requires-clause-inside
 read_u64s-requires-clause-inside c =
     rw c.key_size-size.ensures
-    (omega (arith, used-inside c.args.k c.args.rank _ _ _ (c.if-not-is_tree_node.ensures.0 refl) c.node_size.ensures c.u16_of-used.ensures))
+    (omega (arith, used-inside c.args.k c.args.rank _ _ _ (c.if-not-is_tree_node.ensures.0 refl) c.chunk_node_size.ensures c.u16_of-used.ensures))
 
 pub returns-clause-found : goal.returns-clause-found
 returns-clause-found c =
@@ -28,7 +28,7 @@ returns-clause-found c =
     let children : c.from_vec-2.result ≡ u64s_at b (24 + chunk_key_len r) (chunk_key_len r + 8) (used_of b) =
     c.from_vec-2.ensures ∙ rw (c.key_size-size.ensures, used) at c.in-Ok-read_u64s.ensures in
     record {
-      block = rw c.node_size.ensures at (c.if-not-is_tree_node.ensures.0 refl);
+      block = rw c.chunk_node_size.ensures at (c.if-not-is_tree_node.ensures.0 refl);
       elements = rw used at (c.if-not-are_whole_elements.ensures.0 refl);
       value = rw (c.u64_of.ensures, c.u64_of-2.ensures, keys, children) refl;
     }
