@@ -1,0 +1,13 @@
+pub mod FrameBytes
+pub mod FrameElements
+pub mod FrameHeaders
+pub mod FrameGroups
+pub mod FrameSuper
+pub mod FrameLemmas
+pub mod UniqueHeaders
+pub mod UniqueGroups
+pub mod UniqueChunks
+pub mod UniqueTree
+pub mod EmptyFile
+pub mod EditLemmas
+pub mod BitesLemmas

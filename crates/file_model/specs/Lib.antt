@@ -1,0 +1,10 @@
+pub mod Places
+pub mod Headers
+pub mod Objects
+pub mod Groups
+pub mod Chunks
+pub mod Holds
+pub mod WellKept
+pub mod Limits
+pub mod Laws
+pub mod Bites

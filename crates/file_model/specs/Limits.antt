@@ -1,0 +1,70 @@
+-- The limits within which a file is opened.
+-- Cited by what opens a file.
+use Rattle.std.specs.Prelude.{ℕ, ◌+◌, ◌≤◌, max, List, length}
+use Rattle.std.specs.List.{sum_by}
+use Rattle.outside.specs.Array.{Array}
+use Rattle.header_codec.specs.declared.types.Prefix.{Prefix}
+use Rattle.node_codec.specs.Heap.{SpellsHeap}
+use Rattle.node_codec.specs.declared.heap.HeapHead.{HeapHead}
+use Rattle.object_model.specs.Tree.{Group, Leaf, Empty, Link}
+use Rattle.file_model.specs.Places.{Block, bytes_of}
+use Rattle.file_model.specs.Headers.{Part, IsHeader, header_blocks}
+use Rattle.file_model.specs.Holds.{LeafAt, DataLeaf, SoftLeaf, OtherLeaf, Full, FullLinks}
+
+-- how many links lead down to the deepest object: the root has depth 0
+abbrev mutual
+  pub depth_of : Full → ℕ
+  depth_of (Group g ls) = depth_in ls
+  depth_of (Leaf l) = 0
+
+  pub depth_in : FullLinks → ℕ
+  depth_in Empty = 0
+  depth_in (Link n t rest) = max (depth_of t + 1) (depth_in rest)
+
+-- soft links are no objects
+abbrev pub leaf_objects : LeafAt → ℕ
+leaf_objects (DataLeaf d) = 1
+leaf_objects (SoftLeaf text) = 0
+leaf_objects (OtherLeaf o) = 1
+
+-- all groups, datasets and others
+abbrev mutual
+  pub objects_of : Full → ℕ
+  objects_of (Group g ls) = objects_in ls + 1
+  objects_of (Leaf l) = leaf_objects l
+
+  pub objects_in : FullLinks → ℕ
+  objects_in Empty = 0
+  objects_in (Link n t rest) = objects_of t + objects_in rest
+
+-- the bytes of a header with its continuations
+abbrev pub header_bytes : ℕ → Prefix → List Part → ℕ
+header_bytes at prefix parts = sum_by (λ x. x.len) (header_blocks at prefix parts)
+
+abbrev pub IsShort : Array → ℕ → Type 0
+IsShort b at = (prefix : Prefix) (parts : List Part) → IsHeader b at prefix parts → header_bytes at prefix parts ≤ 1048576
+
+abbrev pub IsSmallHeap : Array → ℕ → Type 0
+IsSmallHeap b at = (head : HeapHead) → SpellsHeap head (bytes_of b at 32) → head.len ≤ 16777216
+
+abbrev pub LeafFits : Array → LeafAt → Type 0
+LeafFits b (DataLeaf d) = IsShort b d.header_at
+LeafFits b (SoftLeaf text) = Unit {0}
+LeafFits b (OtherLeaf o) = IsShort b o.header_at
+
+-- each header and each heap segment is small enough
+abbrev mutual
+  pub Fits : Array → Full → Type 0
+  Fits b (Group g ls) = IsShort b g.header_at × IsSmallHeap b g.heap_at × AllFit b ls
+  Fits b (Leaf l) = LeafFits b l
+
+  pub AllFit : Array → FullLinks → Type 0
+  AllFit b Empty = Unit {0}
+  AllFit b (Link n t rest) = Fits b t × AllFit b rest
+
+-- A tree that is opened; `blocks` are all of the file.
+pub record IsWithinLimits (b : Array) (blocks : List Block) (t : Full) : Type 0 where
+  pub depth : depth_of t ≤ 32
+  pub objects : objects_of t ≤ 65536
+  pub block_count : length blocks ≤ 1048576
+  pub parts : Fits b t
