@@ -4,5 +4,5 @@
 mod answers;
 mod texts;
 
-pub use object_model::{Answer, Code, Command, LinkLine, Path, Shown};
 pub use answers::print_answer;
+pub use object_model::{Answer, Code, Command, LinkLine, Path, Shown};

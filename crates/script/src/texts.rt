@@ -69,12 +69,7 @@ pub(crate) fn put_name(text: &mut Vec<u8>, name: &[u8]) -> Result<(), NoMemory>
 }
 
 /// Appends a size, where `maximum` with `*` for an unlimited one.
-fn put_size(
-    alloc: Global,
-    text: &mut Vec<u8>,
-    maximum: bool,
-    size: u64,
-) -> Result<(), NoMemory>
+fn put_size(alloc: Global, text: &mut Vec<u8>, maximum: bool, size: u64) -> Result<(), NoMemory>
     ensures { OnOk result (text.new.items ≡ text.old.items ++ size_text maximum size) }
 {
     if maximum && size == u64::MAX {
