@@ -1,1 +1,6 @@
+pub mod Line
+pub mod Names
+pub mod Numbers
 pub mod Print
+pub mod Types
+pub mod Words

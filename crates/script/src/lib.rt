@@ -2,7 +2,16 @@
 #![tactic(auto)]
 
 mod answers;
+mod arguments;
+mod numbers;
+mod paths;
+mod stop;
+mod symbols;
 mod texts;
+mod types;
+mod values;
+mod words;
 
 pub use answers::print_answer;
 pub use object_model::{Answer, Code, Command, LinkLine, Path, Shown};
+pub use stop::LineStop;

@@ -1,0 +1,117 @@
+ghost use Rattle.std.specs.Prelude.{◌≡◌, List, ℕ, IfOk, Err};
+ghost use Rattle.std.specs.List.{AllZip};
+ghost use Rattle.script.specs.Words.{split_on};
+ghost use Rattle.script.specs.Names.{is_named, IsName, IsPath};
+ghost use Rattle.script.specs.Line.{admits, can_be_made, IsPathThat};
+
+use crate::Path;
+use crate::stop::LineStop;
+use crate::symbols::{Within, read_text};
+use crate::words::split;
+use h5_base::{Bytes, LinkName};
+use std::alloc::Global;
+
+/// Neither empty nor `.`.
+fn is_named(bytes: &[u8]) -> bool
+    ensures { result ≡ is_named bytes.now }
+{
+    match bytes {
+        [] => false,
+        [c] => *c != b'.',
+        [_, _, ..] => true,
+    }
+}
+
+/// The name that the text spells.
+fn read_name(alloc: Global, text: &[u8]) -> Result<LinkName, LineStop>
+    ensures found { IfOk result (λ n. IsName text.now n) }
+    ensures bad { result ≡ Err LineStop.BadLine → (n : List ℕ) → IsName text.now n → ⊥ }
+{
+    match read_text(alloc, Within::Path, text) {
+        Ok(bytes) => {
+            if !is_named(&bytes) {
+                return Err(LineStop::BadLine);
+            }
+            Ok(LinkName::from_bytes(Bytes::from_vec(bytes)))
+        }
+        Err(stop) => Err(stop),
+    }
+}
+
+fn read_names(alloc: Global, text: &[u8]) -> Result<Vec<LinkName>, LineStop>
+    ensures found { IfOk result (λ v. AllZip IsName (split_on 47 text.now) v.items) }
+    ensures bad { result ≡ Err LineStop.BadLine → (p : List (List ℕ)) → AllZip IsName (split_on 47 text.now) p → ⊥ }
+{
+    let pieces = split(alloc, b'/', text)?;
+    let mut names = Vec::new(alloc);
+    for piece in &pieces {
+        match read_name(alloc, *piece) {
+            Ok(name) => names.push(name)?,
+            Err(stop) => return Err(stop),
+        }
+    }
+    Ok(names)
+}
+
+/// The path that the word spells.
+pub(crate) fn read_path(alloc: Global, word: &[u8]) -> Result<Path, LineStop>
+    ensures found { IfOk result (λ p. IsPath word.now p) }
+    ensures bad { result ≡ Err LineStop.BadLine → (p : List (List ℕ)) → IsPath word.now p → ⊥ }
+{
+    match word {
+        [b'/'] => Ok(Path::from_names(h5_base::List::from_vec(Vec::new(alloc)))),
+        [b'/', text @ ..] => match read_names(alloc, text) {
+            Ok(names) => Ok(Path::from_names(h5_base::List::from_vec(names))),
+            Err(stop) => Err(stop),
+        },
+        _ => Err(LineStop::BadLine),
+    }
+}
+
+/// What a command does at its path.
+#[derive(Clone, Copy, Debug, PartialEq, Eq)]
+pub(crate) enum Leads {
+    /// It looks at what the path leads to.
+    Anywhere,
+    /// It removes the last link of the path.
+    ToLink,
+    /// It makes the last link of the path.
+    ToNewLink,
+}
+
+/// Whether a command may make a link of this name.
+fn can_be_made(name: &[u8]) -> bool
+    ensures { result ≡ can_be_made name.now }
+{
+    name.len() <= 255 && name.iter().all(|b| *b != 0)
+}
+
+/// Whether the command may have this path.
+fn admits(leads: Leads, names: &[LinkName]) -> bool
+    ensures { result ≡ admits leads names.now }
+{
+    match leads {
+        Leads::Anywhere => true,
+        Leads::ToLink => names.len() != 0,
+        Leads::ToNewLink => match names.last() {
+            Some(name) => can_be_made(name.as_slice()),
+            None => false,
+        },
+    }
+}
+
+/// The path that the word spells, where the command may have it.
+pub(crate) fn read_path_that(alloc: Global, leads: Leads, word: &[u8]) -> Result<Path, LineStop>
+    ensures found { IfOk result (λ p. IsPathThat leads word.now p) }
+    ensures bad { result ≡ Err LineStop.BadLine → (p : List (List ℕ)) → IsPathThat leads word.now p → ⊥ }
+{
+    match read_path(alloc, word) {
+        Ok(path) => {
+            if !admits(leads, path.as_slice()) {
+                return Err(LineStop::BadLine);
+            }
+            Ok(path)
+        }
+        Err(stop) => Err(stop),
+    }
+}
