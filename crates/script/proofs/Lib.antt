@@ -1,5 +1,11 @@
-pub mod PrintLemmas
-pub mod Splits
-pub mod Runs
+pub mod ArgumentLemmas
 pub mod CharLemmas
+pub mod CommandLemmas
+pub mod MkdataLemmas
 pub mod NumberLemmas
+pub mod PrintLemmas
+pub mod Runs
+pub mod SizeLemmas
+pub mod Splits
+pub mod Unique
+pub mod Unlike

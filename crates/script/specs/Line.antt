@@ -16,6 +16,8 @@ use Rattle.script.specs.Names.{IsPath, IsText}
 use Rattle.script.specs.Numbers.{IsInteger, IsSizes}
 use Rattle.script.specs.Types.{IsType}
 use Rattle.script.specs.declared.symbols.Within.TheVariants.{Quotes}
+use Rattle.script.specs.declared.lines.Key.{Key}
+use Rattle.script.specs.declared.lines.Key.TheVariants as key
 use Rattle.script.specs.declared.paths.Leads.{Leads}
 use Rattle.script.specs.declared.paths.Leads.TheVariants.{Anywhere, ToLink, ToNewLink}
 
@@ -71,17 +73,12 @@ pub record IsBox (text : List ℕ) (path : List (List ℕ)) (start count more : 
 
 -- the next word is this one
 abbrev pub IsKey : List ℕ → List ℕ → Type 0
-IsKey key text = (more : List ℕ) × (next_word text ≡ Some (key, more))
+IsKey word text = (more : List ℕ) × (next_word text ≡ Some (word, more))
 
 -- sizes behind this word, where it is next
 abbrev pub IsOption : (maximum : Bool) → List ℕ → List ℕ → Option (List ℕ) → List ℕ → Type 0
-IsOption maximum key text None more = (IsKey key text → ⊥) × (text ≡ more)
-IsOption maximum key text (Some sizes) more = (after : List ℕ) × (next_word text ≡ Some (key, after)) × Next (IsSizes maximum) after sizes more
-
--- a value behind `fill`, or nothing more
-abbrev pub IsFill : List ℕ → Option Value → Type 0
-IsFill text None = text ≡ []
-IsFill text (Some v) = (after : List ℕ) × (next_word text ≡ Some (codes "fill", after)) × IsValue after v []
+IsOption maximum word text None more = (IsKey word text → ⊥) × (text ≡ more)
+IsOption maximum word text (Some sizes) more = (after : List ℕ) × (next_word text ≡ Some (word, after)) × Next (IsSizes maximum) after sizes more
 
 -- as many chunk sizes as sizes, at least one, and none of them 0
 abbrev pub is_chunk : List ℕ → Option (List ℕ) → Bool
@@ -93,27 +90,34 @@ abbrev pub is_maximum : List ℕ → Option (List ℕ) → Option (List ℕ) →
 is_maximum dims chunk None = true
 is_maximum dims chunk (Some max) = is_some chunk && all_le dims max
 
--- a fill value that the type can hold
-abbrev pub AdmitsFill : ElemType → Option Value → Type 0
-AdmitsFill t None = Unit {0}
-AdmitsFill t (Some v) = CanHold t v
+-- sizes, and chunk sizes and maximum sizes where they are given
+pub record IsSizing (text dims : List ℕ) (chunk max : Option (List ℕ)) (more : List ℕ) : Type 0 where
+  pub after_dims : List ℕ
+  pub after_chunk : List ℕ
+  pub dims_are : Next (IsSizes false) text dims after_dims
+  pub chunk_is : IsOption false (codes "chunk") after_dims chunk after_chunk
+  pub max_is : IsOption true (codes "max") after_chunk max more
+
+-- the same, and they fit one another
+pub record IsShape (text dims : List ℕ) (chunk max : Option (List ℕ)) (more : List ℕ) : Type 0 where
+  pub sizing : IsSizing text dims chunk max more
+  pub chunk_fits : is_chunk dims chunk ≡ true
+  pub max_fits : is_maximum dims chunk max ≡ true
+
+-- a value that the type can hold behind `fill`, or nothing more
+abbrev pub IsFill : ElemType → List ℕ → Option Value → Type 0
+IsFill t text None = text ≡ []
+IsFill t text (Some v) = (after : List ℕ) × (next_word text ≡ Some (codes "fill", after)) × IsValue after v [] × CanHold t v
 
 -- path, type, sizes, and `chunk`, `max` and `fill` in this order, each of which may be left out
 pub record IsMkdata (text : List ℕ) (path : List (List ℕ)) (t : ElemType) (dims : List ℕ) (chunk max : Option (List ℕ)) (fill : Option Value) : Type 0 where
   pub after_path : List ℕ
   pub after_type : List ℕ
-  pub after_dims : List ℕ
-  pub after_chunk : List ℕ
-  pub after_max : List ℕ
+  pub after_shape : List ℕ
   pub path_is : Next (IsPathThat ToNewLink) text path after_path
   pub type_is : Next IsType after_path t after_type
-  pub dims_are : Next (IsSizes false) after_type dims after_dims
-  pub chunk_is : IsOption false (codes "chunk") after_dims chunk after_chunk
-  pub max_is : IsOption true (codes "max") after_chunk max after_max
-  pub fill_is : IsFill after_max fill
-  pub chunk_fits : is_chunk dims chunk ≡ true
-  pub max_fits : is_maximum dims chunk max ≡ true
-  pub fill_fits : AdmitsFill t fill
+  pub shape_is : IsShape after_type dims chunk max after_shape
+  pub fill_is : IsFill t after_shape fill
 
 -- a path and new sizes
 abbrev pub IsExtend : List ℕ → List (List ℕ) → List ℕ → Type 0
@@ -136,20 +140,38 @@ IsArguments text (command.Rm path) = Next (IsPathThat ToLink) text path []
 IsArguments text command.Flush = text ≡ []
 IsArguments text (command.Commit comment) = (text ≡ 32 ∷ comment) × IsComment comment
 
+abbrev pub key_of : Command → Key
+key_of (command.Mkgroup path) = key.Mkgroup
+key_of (command.Mkdata path t dims chunk max fill) = key.Mkdata
+key_of (command.Write path start count values) = key.Write
+key_of (command.Read path start count) = key.Read
+key_of (command.Ls path) = key.Ls
+key_of (command.Stat path) = key.Stat
+key_of (command.Extend path dims) = key.Extend
+key_of (command.Rm path) = key.Rm
+key_of command.Flush = key.Flush
+key_of (command.Commit comment) = key.Commit
+
+abbrev pub key_word : Key → List ℕ
+key_word key.Mkgroup = codes "mkgroup"
+key_word key.Mkdata = codes "mkdata"
+key_word key.Write = codes "write"
+key_word key.Read = codes "read"
+key_word key.Ls = codes "ls"
+key_word key.Stat = codes "stat"
+key_word key.Extend = codes "extend"
+key_word key.Rm = codes "rm"
+key_word key.Flush = codes "flush"
+key_word key.Commit = codes "commit"
+
 abbrev pub word_of : Command → List ℕ
-word_of (command.Mkgroup path) = codes "mkgroup"
-word_of (command.Mkdata path t dims chunk max fill) = codes "mkdata"
-word_of (command.Write path start count values) = codes "write"
-word_of (command.Read path start count) = codes "read"
-word_of (command.Ls path) = codes "ls"
-word_of (command.Stat path) = codes "stat"
-word_of (command.Extend path dims) = codes "extend"
-word_of (command.Rm path) = codes "rm"
-word_of command.Flush = codes "flush"
-word_of (command.Commit comment) = codes "commit"
+word_of c = key_word (key_of c)
+
+-- the word and what follows it spell the command
+abbrev pub Reads : List ℕ → List ℕ → Command → Type 0
+Reads word text c = (word ≡ word_of c) × IsArguments text c
 
 -- at most 65,536 bytes, the command's word first, and its arguments behind it
 pub record IsLine (line : List ℕ) (c : Command) : Type 0 where
   pub short : length line ≤ 65536
-  pub first : front 32 line ≡ word_of c
-  pub arguments : IsArguments (rest_from 32 line) c
+  pub spelled : Reads (front 32 line) (rest_from 32 line) c

@@ -3,6 +3,9 @@
 
 mod answers;
 mod arguments;
+mod commands;
+mod lines;
+mod mkdata;
 mod numbers;
 mod paths;
 mod stop;
@@ -13,5 +16,6 @@ mod values;
 mod words;
 
 pub use answers::print_answer;
+pub use lines::read_line;
 pub use object_model::{Answer, Code, Command, LinkLine, Path, Shown};
 pub use stop::LineStop;

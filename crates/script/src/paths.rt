@@ -1,5 +1,5 @@
-ghost use Rattle.std.specs.Prelude.{◌≡◌, List, ℕ, IfOk, Err};
-ghost use Rattle.std.specs.List.{AllZip};
+ghost use Rattle.std.specs.Prelude.{◌≡◌, ◌==◌, not, List, ℕ, IfOk, Err};
+ghost use Rattle.std.specs.List.{AllZip, list_all};
 ghost use Rattle.script.specs.Words.{split_on};
 ghost use Rattle.script.specs.Names.{is_named, IsName, IsPath};
 ghost use Rattle.script.specs.Line.{admits, can_be_made, IsPathThat};
@@ -79,11 +79,18 @@ pub(crate) enum Leads {
     ToNewLink,
 }
 
+/// Whether no byte is 0.
+fn has_no_zero(name: &[u8]) -> bool
+    ensures { result ≡ list_all (λ b. not (b == 0)) name.now }
+{
+    name.iter().all(|b| *b != 0)
+}
+
 /// Whether a command may make a link of this name.
 fn can_be_made(name: &[u8]) -> bool
     ensures { result ≡ can_be_made name.now }
 {
-    name.len() <= 255 && name.iter().all(|b| *b != 0)
+    name.len() <= 255 && has_no_zero(name)
 }
 
 /// Whether the command may have this path.
