@@ -147,6 +147,7 @@ quoted_shorter (s ∷ q ∷ xs) x e = by (s == 32 && q == 34) e
     over (r ∷ rs) le g =
         let same : length x.1 ≡ length rs = ap (λ (p : List ℕ × List ℕ). length p.1) (sym (some_is (front 34 xs, rs) x g)) in
         omega (arith, same, le)
+
     by : (b : Bool) → cond b (closed (front 34 xs) (rest_from 34 xs)) None ≡ Some x → length x.1 < suc (suc (length xs))
     by true g = over (rest_from 34 xs) (omega (arith, length-drop {A = ℕ})) g
     by false g = absurd cc

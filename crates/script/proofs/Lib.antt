@@ -3,8 +3,10 @@ pub mod CharLemmas
 pub mod CommandLemmas
 pub mod MkdataLemmas
 pub mod NumberLemmas
+pub mod OneCommand
 pub mod PrintLemmas
 pub mod Runs
+pub mod ScriptExamples
 pub mod SizeLemmas
 pub mod Splits
 pub mod Unique

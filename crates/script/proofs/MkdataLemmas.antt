@@ -18,7 +18,7 @@ pub key_is : (key word text after : List ℕ) → next_word text ≡ Some (word,
 key_is key word text after e (more, at) = ap (λ (p : List ℕ × List ℕ). p.0) (some_is (word, after) (key, more) (sym e ∙ at))
 
 pub no_key_here : (key text : List ℕ) → None ≡ next_word text → IsKey key text → ⊥
-no_key_here key text e (more, at) = let both : None {A = List ℕ × List ℕ} ≡ Some (key, more) = e ∙ at in absurd cc
+no_key_here key text e (more, at) = let both : None ≡ Some (key, more) = e ∙ at in cc
 
 pub no_option : (m : Bool) (key text after : List ℕ) → next_word text ≡ Some (key, after) → ((ns more : List ℕ) → Next (IsSizes m) after ns more → ⊥)
     → (d : Option (List ℕ)) (more : List ℕ) → IsOption m key text d more → ⊥

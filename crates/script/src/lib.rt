@@ -4,6 +4,7 @@
 mod answers;
 mod arguments;
 mod commands;
+pub mod laws;
 mod lines;
 mod mkdata;
 mod numbers;

@@ -121,11 +121,7 @@ fn take_shape(alloc: Global, text: &[u8]) -> Result<(Sizes, &[u8]), LineStop>
 }
 
 /// A fill value that the type can hold, to the end of the text.
-fn read_fill_value(
-    alloc: Global,
-    elem_type: &ElemType,
-    text: &[u8],
-) -> Result<Value, LineStop>
+fn read_fill_value(alloc: Global, elem_type: &ElemType, text: &[u8]) -> Result<Value, LineStop>
     requires { IsElemType elem_type.now }
     ensures found { IfOk result (λ v. IsValue text.now v [] × CanHold elem_type.now v) }
     ensures bad { result ≡ Err LineStop.BadLine → (v : Value) → IsValue text.now v [] → CanHold elem_type.now v → ⊥ }
@@ -145,11 +141,7 @@ fn read_fill_value(
 }
 
 /// The fill value to the end of the text, none where the text is at its end.
-fn read_fill(
-    alloc: Global,
-    elem_type: &ElemType,
-    text: &[u8],
-) -> Result<Option<Value>, LineStop>
+fn read_fill(alloc: Global, elem_type: &ElemType, text: &[u8]) -> Result<Option<Value>, LineStop>
     requires { IsElemType elem_type.now }
     ensures found { IfOk result (λ f. IsFill elem_type.now text.now f) }
     ensures bad { result ≡ Err LineStop.BadLine → (f : Option Value) → IsFill elem_type.now text.now f → ⊥ }

@@ -1,0 +1,5 @@
+use Rattle.script.proofs.OneCommand as law
+use Rattle.script.proofs.laws.one_command.Goals as goal
+
+pub returns : goal.returns
+returns c = law.one_command
