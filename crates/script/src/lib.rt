@@ -11,6 +11,8 @@ mod numbers;
 mod paths;
 mod stop;
 mod symbols;
+#[cfg(test)]
+mod tests;
 mod texts;
 mod types;
 mod values;
