@@ -1,9 +1,8 @@
 -- What can't be spelled where a part can't.
-use Rattle.std.proofs.Common.{◌≡◌, ◌≢◌, ℕ, zero, suc, ◌+◌, ◌-◌, ◌<◌, ◌≤◌, Bool, true, false, cond, ℤ, List, [], ◌∷◌, length, take, drop, Option, Some, None, refl, sym, ap, subst, ◌∙◌, arith, inl, inr, length-drop}
-use Rattle.std.specs.Prelude.{codes, ◌==◌, ◌&&◌, slice_get}
+use Rattle.std.proofs.Common.{◌≡◌, ℕ, suc, ◌+◌, ◌-◌, ◌<◌, ◌≤◌, Bool, true, false, cond, ℤ, List, [], ◌∷◌, length, take, Some, None, refl, sym, ap, subst, ◌∙◌, arith, length-drop}
+use Rattle.std.specs.Prelude.{◌==◌, ◌&&◌, slice_get}
 use Rattle.std.proofs.lemmas.Bool.Decides.{nat_tests}
 use Rattle.std.proofs.lemmas.Str.Parse.{digit_from_value}
-use Rattle.dtype.specs.declared.types.ElemType.{ElemType}
 use Rattle.dtype.specs.declared.types.Value.{Value}
 use Rattle.dtype.specs.declared.types.Value.TheVariants as value
 use Rattle.object_model.specs.Tree.{last_of}
@@ -12,7 +11,7 @@ use Rattle.script.specs.declared.paths.Leads.{Leads}
 use Rattle.script.specs.declared.paths.Leads.TheVariants.{Anywhere, ToNewLink}
 use Rattle.script.specs.Words.{Next, next_word, before_len, front, rest_from}
 use Rattle.script.specs.Names.{IsText, IsPath}
-use Rattle.script.specs.Numbers.{is_bare, IsSizes, IsInteger}
+use Rattle.script.specs.Numbers.{IsSizes, IsInteger}
 use Rattle.script.specs.Line.{IsBox, IsPathThat, IsValue, admits, can_be_made, begins_quoted, next_quoted, closed}
 use Rattle.script.proofs.Runs.{some_is, next_rest, RestIs}
 use Rattle.script.proofs.Unique.{IsOne, one_integer, one_next, one_path, one_text}

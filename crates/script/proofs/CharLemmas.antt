@@ -1,8 +1,8 @@
 -- Reading a text byte by byte.
-use Rattle.std.proofs.Common.{◌≡◌, ℕ, zero, suc, ◌+◌, ◌*◌, ◌<◌, Bool, true, false, cond, List, [], ◌∷◌, length, Option, Some, None, refl, sym, ap, ◌∙◌, arith}
+use Rattle.std.proofs.Common.{◌≡◌, ℕ, suc, ◌+◌, ◌*◌, ◌<◌, Bool, true, false, cond, List, [], ◌∷◌, length, Option, Some, None, sym, ap, ◌∙◌, arith}
 use Rattle.std.specs.Prelude.{option_and_then, ◌==◌}
 use Rattle.script.specs.declared.symbols.Within.{Within}
-use Rattle.script.specs.Names.{char_at, after_backslash, escaped, may_escape, is_plain, hex_digit, IsChar}
+use Rattle.script.specs.Names.{char_at, after_backslash, escaped, is_plain, hex_digit, IsChar}
 use Rattle.script.proofs.Runs.{some_is, RestIs}
 
 escaped_rest : (u : Within) (h l : ℕ) (rest : List ℕ) (x : ℕ × List ℕ) → escaped u h l rest ≡ Some x → x.1 ≡ rest

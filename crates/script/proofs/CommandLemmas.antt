@@ -1,19 +1,15 @@
 -- No command is spelled where the arguments of its word aren't.
-use Rattle.std.proofs.Common.{◌≡◌, ◌≢◌, ℕ, ◌<◌, Bool, true, false, IsTrue, ◌↔◌, List, [], ◌∷◌, length, Option, Some, None, refl, sym, ap, subst, ◌∙◌, arith}
+use Rattle.std.proofs.Common.{◌≡◌, ℕ, ◌<◌, Bool, true, false, IsTrue, ◌↔◌, List, [], ◌∷◌, length, Option, Some, refl, sym, ap, subst, arith}
 use Rattle.std.specs.Prelude.{codes}
-use Rattle.std.specs.List.{AllZip}
 use Rattle.h5_base.specs.Names.{IsComment}
 use Rattle.dtype.specs.declared.types.ElemType.{ElemType}
 use Rattle.dtype.specs.declared.types.Value.{Value}
 use Rattle.object_model.specs.declared.command.Command.{Command}
 use Rattle.object_model.specs.declared.command.Command.TheVariants as command
-use Rattle.script.specs.declared.lines.Key.{Key}
-use Rattle.script.specs.declared.lines.Key.TheVariants as key
-use Rattle.script.specs.declared.paths.Leads.{Leads}
 use Rattle.script.specs.declared.paths.Leads.TheVariants.{Anywhere, ToLink, ToNewLink}
 use Rattle.script.specs.Words.{IsRun, Next, next_word}
 use Rattle.script.specs.Numbers.{IsSizes}
-use Rattle.script.specs.Line.{IsBox, IsExtend, IsKey, IsMkdata, IsPathThat, IsValue, IsWrite, Reads, key_word, word_of}
+use Rattle.script.specs.Line.{IsBox, IsExtend, IsKey, IsMkdata, IsPathThat, IsValue, IsWrite, Reads}
 use Rattle.script.proofs.Runs.{next_rest}
 use Rattle.script.proofs.Unlike.{unlike}
 use Rattle.script.proofs.ArgumentLemmas.{box_rest}

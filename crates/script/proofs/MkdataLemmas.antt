@@ -1,5 +1,5 @@
 -- What can't be spelled of a new dataset where a part can't.
-use Rattle.std.proofs.Common.{◌≡◌, ℕ, Bool, true, false, List, [], ◌∷◌, length, Option, Some, None, refl, sym, ap, subst, ◌∙◌, arith}
+use Rattle.std.proofs.Common.{◌≡◌, ℕ, Bool, true, false, List, [], Option, Some, None, refl, sym, ap, subst, ◌∙◌}
 use Rattle.std.specs.Prelude.{codes}
 use Rattle.dtype.specs.Values.{CanHold}
 use Rattle.dtype.specs.declared.types.ElemType.{ElemType}

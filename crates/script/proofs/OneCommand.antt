@@ -1,24 +1,20 @@
 -- A line spells one command.
-use Rattle.std.proofs.Common.{◌≡◌, ℕ, Bool, true, false, List, [], ◌∷◌, length, Option, Some, None, refl, sym, ap, subst, ◌∙◌, arith, inl, inr}
+use Rattle.std.proofs.Common.{◌≡◌, ℕ, false, List, [], ◌∷◌, Option, Some, None, refl, sym, ap, subst, ◌∙◌}
 use Rattle.std.specs.Prelude.{codes}
-use Rattle.std.specs.List.{AllZip}
 use Rattle.dtype.specs.declared.types.ElemType.{ElemType}
 use Rattle.dtype.specs.declared.types.Value.{Value}
 use Rattle.dtype.specs.declared.types.Value.TheVariants as value
 use Rattle.object_model.specs.declared.command.Command.{Command}
 use Rattle.object_model.specs.declared.command.Command.TheVariants as command
-use Rattle.script.specs.declared.symbols.Within.TheVariants.{Quotes}
-use Rattle.script.specs.declared.lines.Key.{Key}
 use Rattle.script.specs.declared.paths.Leads.{Leads}
 use Rattle.script.specs.declared.paths.Leads.TheVariants.{Anywhere, ToLink, ToNewLink}
-use Rattle.script.specs.Words.{IsRun, Next, next_word, front, rest_from}
-use Rattle.script.specs.Names.{IsText}
-use Rattle.script.specs.Numbers.{IsInteger, IsSizes}
+use Rattle.script.specs.Words.{IsRun, Next, next_word, rest_from}
+use Rattle.script.specs.Numbers.{IsSizes}
 use Rattle.script.specs.Types.{IsType}
-use Rattle.script.specs.Line.{IsArguments, IsBox, IsFill, IsLine, IsMkdata, IsPathThat, IsShape, IsValue, next_quoted, word_of}
-use Rattle.script.specs.Script.{AreCommands, Means, OneCommand, OneScript, lines}
+use Rattle.script.specs.Line.{IsArguments, IsBox, IsFill, IsMkdata, IsPathThat, IsShape, IsValue, next_quoted, word_of}
+use Rattle.script.specs.Script.{Means, OneCommand, OneScript, lines}
 use Rattle.script.proofs.Runs.{some_is}
-use Rattle.script.proofs.Unique.{IsOne, IsSome, one_each, one_integer, one_next, one_path, one_run, one_sizes, one_text, one_type}
+use Rattle.script.proofs.Unique.{IsOne, IsSome, one_each, one_next, one_path, one_run, one_sizes, one_type}
 use Rattle.script.proofs.ArgumentLemmas.{one_value}
 use Rattle.script.proofs.Unlike.{unlike}
 use Rattle.script.proofs.MkdataLemmas.{one_sizing}

@@ -1,5 +1,5 @@
 -- Worked scripts and answers, computed.
-use Rattle.std.proofs.Common.{◌≡◌, ℕ, List, [], ◌∷◌, refl, inl, arith}
+use Rattle.std.proofs.Common.{◌≡◌, [], ◌∷◌, refl, inl, arith}
 use Rattle.object_model.specs.declared.command.Command.{Command}
 use Rattle.script.specs.declared.lines.Key.{Key}
 use Rattle.script.specs.declared.lines.Key.TheVariants as key

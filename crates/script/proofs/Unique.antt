@@ -1,6 +1,6 @@
 -- Each text spells one value.
-use Rattle.std.proofs.Common.{◌≡◌, ◌≢◌, ℕ, zero, suc, ◌+◌, ◌*◌, ◌<◌, ◌≤◌, Bool, true, false, cond, ℤ, List, [], ◌∷◌, length, Option, Some, None, refl, sym, ap, subst, ◌∙◌, arith, inl, inr}
-use Rattle.std.specs.Prelude.{codes, ◌==◌, ◌&&◌, option_and_then}
+use Rattle.std.proofs.Common.{◌≡◌, ℕ, ◌≤◌, Bool, true, false, cond, ℤ, List, [], ◌∷◌, length, Option, Some, None, refl, sym, ap, subst, ◌∙◌, arith, inl, inr}
+use Rattle.std.specs.Prelude.{codes, ◌==◌, ◌&&◌}
 use Rattle.std.specs.List.{AllZip}
 use Rattle.std.specs.Str.Parse.{digits_value}
 use Rattle.std.proofs.lemmas.Str.Parse.{digit_from_value}
@@ -8,15 +8,12 @@ use Rattle.std.proofs.lemmas.Bool.Decides.{nat_tests}
 use Rattle.dtype.specs.declared.types.Pad.{Pad}
 use Rattle.dtype.specs.declared.types.ElemType.{ElemType}
 use Rattle.dtype.specs.declared.types.ElemType.TheVariants as elem
-use Rattle.dtype.specs.declared.types.Value.{Value}
-use Rattle.dtype.specs.declared.types.Value.TheVariants as value
 use Rattle.script.specs.declared.symbols.Within.{Within}
 use Rattle.script.specs.declared.symbols.Within.TheVariants.{Path}
-use Rattle.script.specs.Words.{split_on, IsRun, Next, next_word}
+use Rattle.script.specs.Words.{split_on, IsRun, Next}
 use Rattle.script.specs.Names.{char_at, IsChar, IsText, IsName, IsPath}
-use Rattle.script.specs.Numbers.{IsU64, IsI128, IsSize, IsSizes, IsInteger}
+use Rattle.script.specs.Numbers.{IsU64, IsSize, IsSizes, IsInteger}
 use Rattle.script.specs.Types.{int_type, int_of, sign_of, wide_size, narrow_size, order_of, after_str, padding, IsType}
-use Rattle.script.specs.Line.{IsValue, next_quoted, begins_quoted}
 use Rattle.script.proofs.Runs.{some_is}
 
 -- a value at the front of a text, and what follows it, are one

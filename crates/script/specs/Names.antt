@@ -1,8 +1,7 @@
 -- How bytes are written in names and quoted texts, and which words are paths.
 -- Cited by the reader of a line.
-use Rattle.std.specs.Prelude.{◌≡◌, ℕ, ◌+◌, ◌*◌, ◌-◌, nat_le, Bool, true, false, not, ◌&&◌, ◌==◌, List, [], ◌∷◌, length, Option, Some, None, if◌then◌else◌, option_and_then, ◌⊎◌}
-use Rattle.std.specs.List.{AllZip, list_all}
-use Rattle.dtype.specs.Values as values
+use Rattle.std.specs.Prelude.{◌≡◌, ℕ, ◌+◌, ◌*◌, ◌-◌, nat_le, Bool, true, false, not, ◌&&◌, ◌==◌, List, [], ◌∷◌, Option, Some, None, if◌then◌else◌, option_and_then, ◌⊎◌}
+use Rattle.std.specs.List.{AllZip}
 use Rattle.script.specs.Words.{split_on, IsRun}
 use Rattle.script.specs.declared.symbols.Within.{Within}
 use Rattle.script.specs.declared.symbols.Within.TheVariants.{Path, Quotes}

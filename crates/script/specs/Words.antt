@@ -1,6 +1,6 @@
 -- How a text is cut: at each separator, and into words behind single spaces.
 -- Cited by the reader of a line and each of its parts, and by the split of a script into lines.
-use Rattle.std.specs.Prelude.{◌≡◌, ℕ, ◌==◌, Bool, not, List, [], ◌∷◌, take, drop, Option, Some, None, if◌then◌else◌}
+use Rattle.std.specs.Prelude.{◌≡◌, ℕ, ◌==◌, not, List, [], ◌∷◌, take, drop, Option, Some, None, if◌then◌else◌}
 use Rattle.std.specs.List.{prefix_len}
 
 abbrev pub onto_first : ℕ → List (List ℕ) → List (List ℕ)
