@@ -1,3 +1,5 @@
+ghost use Rattle.std.specs.Prelude.{◌≡◌, ◌%◌, length};
+ghost use Rattle.dtype.specs.Types.{IsElemType, size_of};
 ghost use Rattle.script.specs.Print.{HasText};
 
 use crate::answers::print_answer;
@@ -145,81 +147,72 @@ fn spelled(alloc: Global, command: &Command) -> Result<Vec<u8>, NoMemory> {
     Ok(line)
 }
 
-/// Lines that spell a command, and the command spelled again.
+fn reads_as(rt: &impl Abort, alloc: Global, line: &str, again: &str) -> Result<(), LineStop> {
+    let command = read_line(alloc, line.as_bytes())?;
+    let text = spelled(alloc, &command)?;
+    assert_eq!(rt; text.as_slice(), again.as_bytes(), "at {line}");
+    Ok(())
+}
+
+/// Lines that spell a command, which is spelled again as they are.
 #[test]
 fn good_lines(rt: HostRuntime) -> Result<(), Fail> {
-    let alloc = rt.alloc();
+    for line in [
+        "mkgroup /a",
+        "mkgroup /..",
+        "mkdata /a i8le 3",
+        "mkdata /a u16be - fill 65535",
+        "mkdata /a i32be 3,0 chunk 1,2",
+        "mkdata /a u64le 3,4 chunk 1,18446744073709551615 max *,4 fill 0",
+        "mkdata /a i8le 3 fill -128",
+        "mkdata /a str1 3 fill \"b\"",
+        "mkdata /a strz65535 3 fill \"\"",
+        "mkdata /a strs4 3 fill \"b c \"",
+        "write /a 0 3 1 -2 170141183460469231731687303715884105727",
+        "write /a 0 1 -170141183460469231731687303715884105728",
+        "write /a 0,0 1,2 \"b c\" \"\"",
+        "write / - -",
+        "read /a/b 0 18446744073709551615",
+        "ls /",
+        "ls /\"a",
+        "stat /a",
+        "extend /a 5,6",
+        "rm /a/b",
+        "flush",
+        "commit two  words ",
+        "commit  ",
+    ] {
+        reads_as(&rt, rt.alloc(), line, line)?;
+    }
+    Ok(())
+}
+
+/// Lines with the other spelling of `>` and of an unlimited maximum.
+#[test]
+fn other_spellings(rt: HostRuntime) -> Result<(), Fail> {
     for (line, again) in [
-        ("mkgroup /a", "mkgroup /a"),
         (
             "mkgroup /a>b/\\x3E\\x20\\x5C\\xFF",
             "mkgroup /a\\x3Eb/\\x3E\\x20\\x5C\\xFF",
-        ),
-        ("mkgroup /..", "mkgroup /.."),
-        ("mkdata /a i8le 3", "mkdata /a i8le 3"),
-        (
-            "mkdata /a u16be - fill 65535",
-            "mkdata /a u16be - fill 65535",
-        ),
-        (
-            "mkdata /a i32be 3,0 chunk 1,2",
-            "mkdata /a i32be 3,0 chunk 1,2",
-        ),
-        (
-            "mkdata /a u64le 3,4 chunk 1,18446744073709551615 max *,4 fill 0",
-            "mkdata /a u64le 3,4 chunk 1,18446744073709551615 max *,4 fill 0",
         ),
         (
             "mkdata /a i64le 3 chunk 1 max 18446744073709551615",
             "mkdata /a i64le 3 chunk 1 max *",
         ),
-        ("mkdata /a i8le 3 fill -128", "mkdata /a i8le 3 fill -128"),
-        ("mkdata /a str1 3 fill \"b\"", "mkdata /a str1 3 fill \"b\""),
-        (
-            "mkdata /a strz65535 3 fill \"\"",
-            "mkdata /a strz65535 3 fill \"\"",
-        ),
-        (
-            "mkdata /a strs4 3 fill \"b c \"",
-            "mkdata /a strs4 3 fill \"b c \"",
-        ),
-        (
-            "write /a 0 3 1 -2 170141183460469231731687303715884105727",
-            "write /a 0 3 1 -2 170141183460469231731687303715884105727",
-        ),
-        (
-            "write /a 0 1 -170141183460469231731687303715884105728",
-            "write /a 0 1 -170141183460469231731687303715884105728",
-        ),
-        (
-            "write /a 0,0 1,2 \"b c\" \"\"",
-            "write /a 0,0 1,2 \"b c\" \"\"",
-        ),
-        ("write / - -", "write / - -"),
-        (
-            "read /a/b 0 18446744073709551615",
-            "read /a/b 0 18446744073709551615",
-        ),
-        ("ls /", "ls /"),
-        ("ls /\"a", "ls /\"a"),
-        ("stat /a", "stat /a"),
-        ("extend /a 5,6", "extend /a 5,6"),
-        ("rm /a/b", "rm /a/b"),
-        ("flush", "flush"),
-        ("commit two  words ", "commit two  words "),
-        ("commit  ", "commit  "),
     ] {
-        let command = read_line(alloc, line.as_bytes())?;
-        let text = spelled(alloc, &command)?;
-        assert_eq!(rt; text.as_slice(), again.as_bytes(), "at {line}");
+        reads_as(&rt, rt.alloc(), line, again)?;
     }
     Ok(())
 }
 
-/// Lines that spell nothing.
+fn is_bad(rt: &impl Abort, alloc: Global, line: &str) {
+    let stop = read_line(alloc, line.as_bytes()).err();
+    assert_eq!(rt; stop, Some(LineStop::BadLine), "at {line}");
+}
+
+/// Lines that spell nothing: words, paths, comments.
 #[test]
-fn bad_lines(rt: HostRuntime) {
-    let alloc = rt.alloc();
+fn bad_paths_and_words(rt: HostRuntime) {
     for line in [
         "",
         " ",
@@ -244,6 +237,22 @@ fn bad_lines(rt: HostRuntime) {
         "mkgroup /",
         "mkgroup /a\\x00",
         "rm /",
+        "flush ",
+        "flush /",
+        "commit",
+        "commit ",
+        "commit \t",
+        "commit \x7F",
+        "# comment",
+    ] {
+        is_bad(&rt, rt.alloc(), line);
+    }
+}
+
+/// New datasets that nothing spells.
+#[test]
+fn bad_datasets(rt: HostRuntime) {
+    for line in [
         "mkdata / i8le 3",
         "mkdata /a i8 3",
         "mkdata /a i16 3",
@@ -273,6 +282,15 @@ fn bad_lines(rt: HostRuntime) {
         "mkdata /a strz1 3 fill \"a\"",
         "mkdata /a i8le 3 fill 1 chunk 1",
         "mkdata /a i8le 3 fill 1 2",
+    ] {
+        is_bad(&rt, rt.alloc(), line);
+    }
+}
+
+/// Boxes, values and sizes that nothing spells.
+#[test]
+fn bad_boxes_and_values(rt: HostRuntime) {
+    for line in [
         "read /a 0",
         "read /a 0 1 2",
         "read /a +1 1",
@@ -298,16 +316,8 @@ fn bad_lines(rt: HostRuntime) {
         "write /a 0 1 \"\\\"\"",
         "extend /a",
         "extend /a 1 2",
-        "flush ",
-        "flush /",
-        "commit",
-        "commit ",
-        "commit \t",
-        "commit \x7F",
-        "# comment",
     ] {
-        let stop = read_line(alloc, line.as_bytes()).err();
-        assert_eq!(rt; stop, Some(LineStop::BadLine), "at {line}");
+        is_bad(&rt, rt.alloc(), line);
     }
 }
 
@@ -348,7 +358,7 @@ const I16BE: ElemType = ElemType::Int {
 };
 
 #[test]
-fn links_and_numbers(rt: HostRuntime) -> Result<(), Fail> {
+fn answers_of_links(rt: HostRuntime) -> Result<(), Fail> {
     let alloc = rt.alloc();
     let mut links = Vec::new(alloc);
     for (name, shown) in [
@@ -363,6 +373,12 @@ fn links_and_numbers(rt: HostRuntime) -> Result<(), Fail> {
     let items = List::from_vec(links);
     let text = "ok g:a\\x3Eb d:c\\x20d l:e\\x5C>/x\\x20\\x3E\" o:/";
     printed(&rt, alloc, &Answer::Links { items }, text)?;
+    Ok(())
+}
+
+#[test]
+fn answers_of_numbers(rt: HostRuntime) -> Result<(), Fail> {
+    let alloc = rt.alloc();
     printed(&rt, alloc, &Answer::Done, "ok")?;
     printed(
         &rt,
@@ -370,8 +386,6 @@ fn links_and_numbers(rt: HostRuntime) -> Result<(), Fail> {
         &Answer::Group { links: 65_535 },
         "ok group 65535",
     )?;
-    let target = Bytes::from_slice(alloc, b"\x7F/")?;
-    printed(&rt, alloc, &Answer::Soft { target }, "ok link \\x7F/")?;
     printed(&rt, alloc, &Answer::Other, "ok other")?;
     let done = Answer::Committed { rev: 12, pages: 0 };
     printed(&rt, alloc, &done, "ok rev 12 pages 0")?;
@@ -380,6 +394,11 @@ fn links_and_numbers(rt: HostRuntime) -> Result<(), Fail> {
         need: 7,
     };
     printed(&rt, alloc, &full, "no full 18446744073709551615 7")?;
+    Ok(())
+}
+
+#[test]
+fn refusals(rt: HostRuntime) -> Result<(), Fail> {
     for (code, text) in [
         (Code::BadLine, "no bad-line"),
         (Code::NotBuilt, "no not-built"),
@@ -399,27 +418,42 @@ fn links_and_numbers(rt: HostRuntime) -> Result<(), Fail> {
         (Code::NoOnion, "no no-onion"),
         (Code::Clock, "no clock"),
     ] {
-        printed(&rt, alloc, &Answer::No { code }, text)?;
+        printed(&rt, rt.alloc(), &Answer::No { code }, text)?;
     }
     Ok(())
 }
 
+fn prints_values(
+    rt: &impl Abort,
+    alloc: Global,
+    elem: ElemType,
+    bytes: &[u8],
+    text: &str,
+) -> Result<(), NoMemory>
+    requires valid { IsElemType elem }
+    requires whole { length bytes.now % size_of elem ≡ 0 }
+{
+    let bytes = Bytes::from_slice(alloc, bytes)?;
+    printed(rt, alloc, &Answer::Values { elem, bytes }, text)
+}
+
+const STRS3: ElemType = ElemType::Text {
+    size: 3,
+    pad: Pad::Space,
+};
+
 #[test]
-fn elements_and_datasets(rt: HostRuntime) -> Result<(), Fail> {
+fn answers_of_values(rt: HostRuntime) -> Result<(), Fail> {
+    prints_values(&rt, rt.alloc(), I16BE, b"\x80\0\0\x07", "ok -32768 7")?;
+    prints_values(&rt, rt.alloc(), I16BE, b"", "ok")?;
+    let text = "ok \"a b\" \"\\x22\"";
+    prints_values(&rt, rt.alloc(), STRS3, b"a b\"  ", text)?;
+    Ok(())
+}
+
+#[test]
+fn answer_of_a_chunked_dataset(rt: HostRuntime) -> Result<(), Fail> {
     let alloc = rt.alloc();
-    let bytes = Bytes::from_slice(alloc, b"\x80\x00\x00\x07")?;
-    let values = Answer::Values { elem: I16BE, bytes };
-    printed(&rt, alloc, &values, "ok -32768 7")?;
-    let bytes = Bytes::from_slice(alloc, b"")?;
-    let values = Answer::Values { elem: I16BE, bytes };
-    printed(&rt, alloc, &values, "ok")?;
-    let elem = ElemType::Text {
-        size: 3,
-        pad: Pad::Space,
-    };
-    let bytes = Bytes::from_slice(alloc, b"a b\x22  ")?;
-    let values = Answer::Values { elem, bytes };
-    printed(&rt, alloc, &values, "ok \"a b\" \"\\x22\"")?;
     let dataset = Answer::Dataset {
         elem: I16BE,
         dims: Dims::from_slice(alloc, &[3, 0])?,
@@ -430,19 +464,29 @@ fn elements_and_datasets(rt: HostRuntime) -> Result<(), Fail> {
     };
     let text = "ok data i16be dims 3,0 max *,4 chunk 1,18446744073709551615 fill -2 filtered";
     printed(&rt, alloc, &dataset, text)?;
+    Ok(())
+}
+
+#[test]
+fn answer_of_a_scalar(rt: HostRuntime) -> Result<(), Fail> {
+    let alloc = rt.alloc();
     let scalar = Answer::Dataset {
-        elem,
+        elem: STRS3,
         dims: Dims::from_slice(alloc, &[])?,
         max: Dims::from_slice(alloc, &[])?,
         chunk: None,
         fill: Bytes::from_slice(alloc, b"   ")?,
         filtered: false,
     };
-    printed(
-        &rt,
-        alloc,
-        &scalar,
-        "ok data strs3 dims - max - chunk none fill \"\"",
-    )?;
+    let text = "ok data strs3 dims - max - chunk none fill \"\"";
+    printed(&rt, alloc, &scalar, text)?;
+    Ok(())
+}
+
+#[test]
+fn answer_of_a_soft_link(rt: HostRuntime) -> Result<(), Fail> {
+    let alloc = rt.alloc();
+    let target = Bytes::from_slice(alloc, b"\x7F/")?;
+    printed(&rt, alloc, &Answer::Soft { target }, "ok link \\x7F/")?;
     Ok(())
 }
