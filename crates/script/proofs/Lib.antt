@@ -1,4 +1,5 @@
 pub mod ArgumentLemmas
+pub mod Carried
 pub mod CharLemmas
 pub mod CommandLemmas
 pub mod MkdataLemmas

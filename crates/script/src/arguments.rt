@@ -1,4 +1,5 @@
 ghost use Rattle.std.specs.Prelude.{◌≡◌, List, ℕ, IfOk, Err};
+ghost use Rattle.dtype.specs.Types.{IsElemType};
 ghost use Rattle.dtype.specs.declared.types.ElemType.{ElemType};
 ghost use Rattle.script.specs.Words.{Next};
 ghost use Rattle.script.specs.Numbers.{IsSizes};
@@ -20,10 +21,7 @@ pub(crate) fn take_path(alloc: Global, leads: Leads, text: &[u8]) -> Result<(Pat
     ensures bad { result ≡ Err LineStop.BadLine → (p : List (List ℕ)) → (more : List ℕ) → Next (IsPathThat leads) text.now p more → ⊥ }
 {
     match next_word(text) {
-        Some((word, rest)) => match read_path_that(alloc, leads, word) {
-            Ok(path) => Ok((path, rest)),
-            Err(stop) => Err(stop),
-        },
+        Some((word, rest)) => Ok((read_path_that(alloc, leads, word)?, rest)),
         None => Err(LineStop::BadLine),
     }
 }
@@ -38,10 +36,7 @@ pub(crate) fn take_sizes(
     ensures bad { result ≡ Err LineStop.BadLine → (ns : List ℕ) → (more : List ℕ) → Next (IsSizes maximum) text.now ns more → ⊥ }
 {
     match next_word(text) {
-        Some((word, rest)) => match read_sizes(alloc, maximum, word) {
-            Ok(sizes) => Ok((sizes, rest)),
-            Err(stop) => Err(stop),
-        },
+        Some((word, rest)) => Ok((read_sizes(alloc, maximum, word)?, rest)),
         None => Err(LineStop::BadLine),
     }
 }
@@ -49,6 +44,7 @@ pub(crate) fn take_sizes(
 /// The type of the next word, and the rest.
 pub(crate) fn take_type(text: &[u8]) -> Result<(ElemType, &[u8]), LineStop>
     ensures found { IfOk result (λ x. Next IsType text.now x.0 x.1.now) }
+    ensures valid { IfOk result (λ x. IsElemType x.0) }
     ensures bad { result ≡ Err LineStop.BadLine → (t : ElemType) → (more : List ℕ) → Next IsType text.now t more → ⊥ }
 {
     match next_word(text) {
@@ -73,16 +69,8 @@ pub(crate) fn take_box(alloc: Global, text: &[u8]) -> Result<(Place, &[u8]), Lin
     ensures found { IfOk result (λ x. IsBox text.now x.0.path x.0.start x.0.count x.1.now) }
     ensures bad { result ≡ Err LineStop.BadLine → (p : List (List ℕ)) → (start count more : List ℕ) → IsBox text.now p start count more → ⊥ }
 {
-    let (path, text) = match take_path(alloc, Leads::Anywhere, text) {
-        Ok(taken) => taken,
-        Err(stop) => return Err(stop),
-    };
-    let (start, text) = match take_sizes(alloc, false, text) {
-        Ok(taken) => taken,
-        Err(stop) => return Err(stop),
-    };
-    match take_sizes(alloc, false, text) {
-        Ok((count, rest)) => Ok((Place { path, start, count }, rest)),
-        Err(stop) => Err(stop),
-    }
+    let (path, text) = take_path(alloc, Leads::Anywhere, text)?;
+    let (start, text) = take_sizes(alloc, false, text)?;
+    let (count, rest) = take_sizes(alloc, false, text)?;
+    Ok((Place { path, start, count }, rest))
 }

@@ -32,10 +32,8 @@ fn take_option<'a>(
             if !is_word(word, key) {
                 return Ok((None, text));
             }
-            match take_sizes(alloc, maximum, after) {
-                Ok((sizes, rest)) => Ok((Some(sizes), rest)),
-                Err(stop) => Err(stop),
-            }
+            let (sizes, rest) = take_sizes(alloc, maximum, after)?;
+            Ok((Some(sizes), rest))
         }
         None => Ok((None, text)),
     }
@@ -99,18 +97,9 @@ fn take_shape(alloc: Global, text: &[u8]) -> Result<(Sizes, &[u8]), LineStop>
     ensures found { IfOk result (λ x. IsShape text.now x.0.dims x.0.chunk x.0.max x.1.now) }
     ensures bad { result ≡ Err LineStop.BadLine → (d : List ℕ) → (c m : Option (List ℕ)) → (more : List ℕ) → IsShape text.now d c m more → ⊥ }
 {
-    let (dims, text) = match take_sizes(alloc, false, text) {
-        Ok(taken) => taken,
-        Err(stop) => return Err(stop),
-    };
-    let (chunk, text) = match take_option(alloc, false, b"chunk", text) {
-        Ok(taken) => taken,
-        Err(stop) => return Err(stop),
-    };
-    let (max, text) = match take_option(alloc, true, b"max", text) {
-        Ok(taken) => taken,
-        Err(stop) => return Err(stop),
-    };
+    let (dims, text) = take_sizes(alloc, false, text)?;
+    let (chunk, text) = take_option(alloc, false, b"chunk", text)?;
+    let (max, text) = take_option(alloc, true, b"max", text)?;
     if !is_chunk(dims.as_slice(), &chunk) {
         return Err(LineStop::BadLine);
     }
@@ -126,18 +115,14 @@ fn read_fill_value(alloc: Global, elem_type: &ElemType, text: &[u8]) -> Result<V
     ensures found { IfOk result (λ v. IsValue text.now v [] × CanHold elem_type.now v) }
     ensures bad { result ≡ Err LineStop.BadLine → (v : Value) → IsValue text.now v [] → CanHold elem_type.now v → ⊥ }
 {
-    match take_value(alloc, text) {
-        Ok((value, rest)) => {
-            if rest.len() != 0 {
-                return Err(LineStop::BadLine);
-            }
-            if !can_hold(elem_type, &value) {
-                return Err(LineStop::BadLine);
-            }
-            Ok(value)
-        }
-        Err(stop) => Err(stop),
+    let (value, rest) = take_value(alloc, text)?;
+    if rest.len() != 0 {
+        return Err(LineStop::BadLine);
     }
+    if !can_hold(elem_type, &value) {
+        return Err(LineStop::BadLine);
+    }
+    Ok(value)
 }
 
 /// The fill value to the end of the text, none where the text is at its end.
@@ -154,10 +139,8 @@ fn read_fill(alloc: Global, elem_type: &ElemType, text: &[u8]) -> Result<Option<
             if !is_word(word, b"fill") {
                 return Err(LineStop::BadLine);
             }
-            match read_fill_value(alloc, elem_type, after) {
-                Ok(value) => Ok(Some(value)),
-                Err(stop) => Err(stop),
-            }
+            let value = read_fill_value(alloc, elem_type, after)?;
+            Ok(Some(value))
         }
         None => Err(LineStop::BadLine),
     }
@@ -168,30 +151,17 @@ pub(crate) fn read_mkdata(alloc: Global, text: &[u8]) -> Result<Command, LineSto
     ensures found { IfOk result (λ c. Reads (codes "mkdata") text.now c) }
     ensures bad { result ≡ Err LineStop.BadLine → (c : Command) → Reads (codes "mkdata") text.now c → ⊥ }
 {
-    let (path, text) = match take_path(alloc, Leads::ToNewLink, text) {
-        Ok(taken) => taken,
-        Err(stop) => return Err(stop),
-    };
-    let (elem, text) = match take_type(text) {
-        Ok(taken) => taken,
-        Err(stop) => return Err(stop),
-    };
-    let (sizes, text) = match take_shape(alloc, text) {
-        Ok(taken) => taken,
-        Err(stop) => return Err(stop),
-    };
-    match read_fill(alloc, &elem, text) {
-        Ok(fill) => {
-            let Sizes { dims, chunk, max } = sizes;
-            Ok(Command::Mkdata {
-                path,
-                elem,
-                dims,
-                chunk,
-                max,
-                fill,
-            })
-        }
-        Err(stop) => Err(stop),
-    }
+    let (path, text) = take_path(alloc, Leads::ToNewLink, text)?;
+    let (elem, text) = take_type(text)?;
+    let (sizes, text) = take_shape(alloc, text)?;
+    let fill = read_fill(alloc, &elem, text)?;
+    let Sizes { dims, chunk, max } = sizes;
+    Ok(Command::Mkdata {
+        path,
+        elem,
+        dims,
+        chunk,
+        max,
+        fill,
+    })
 }

@@ -76,10 +76,8 @@ fn read_list(alloc: Global, maximum: bool, word: &[u8]) -> Result<Vec<u64>, Line
     let pieces = split(alloc, b',', word)?;
     let mut sizes = Vec::new(alloc);
     for piece in &pieces {
-        match read_size(maximum, *piece) {
-            Ok(size) => sizes.push(size)?,
-            Err(stop) => return Err(stop),
-        }
+        let size = read_size(maximum, *piece)?;
+        sizes.push(size)?;
     }
     Ok(sizes)
 }
@@ -92,8 +90,6 @@ pub(crate) fn read_sizes(alloc: Global, maximum: bool, word: &[u8]) -> Result<Di
     if word == b"-".as_slice() {
         return Ok(Dims::from_slice(alloc, &[])?);
     }
-    match read_list(alloc, maximum, word) {
-        Ok(sizes) => Ok(Dims::from_slice(alloc, &sizes)?),
-        Err(stop) => Err(stop),
-    }
+    let sizes = read_list(alloc, maximum, word)?;
+    Ok(Dims::from_slice(alloc, &sizes)?)
 }

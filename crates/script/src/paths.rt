@@ -27,15 +27,11 @@ fn read_name(alloc: Global, text: &[u8]) -> Result<LinkName, LineStop>
     ensures found { IfOk result (λ n. IsName text.now n) }
     ensures bad { result ≡ Err LineStop.BadLine → (n : List ℕ) → IsName text.now n → ⊥ }
 {
-    match read_text(alloc, Within::Path, text) {
-        Ok(bytes) => {
-            if !is_named(&bytes) {
-                return Err(LineStop::BadLine);
-            }
-            Ok(LinkName::from_bytes(Bytes::from_vec(bytes)))
-        }
-        Err(stop) => Err(stop),
+    let bytes = read_text(alloc, Within::Path, text)?;
+    if !is_named(&bytes) {
+        return Err(LineStop::BadLine);
     }
+    Ok(LinkName::from_bytes(Bytes::from_vec(bytes)))
 }
 
 fn read_names(alloc: Global, text: &[u8]) -> Result<Vec<LinkName>, LineStop>
@@ -45,10 +41,8 @@ fn read_names(alloc: Global, text: &[u8]) -> Result<Vec<LinkName>, LineStop>
     let pieces = split(alloc, b'/', text)?;
     let mut names = Vec::new(alloc);
     for piece in &pieces {
-        match read_name(alloc, *piece) {
-            Ok(name) => names.push(name)?,
-            Err(stop) => return Err(stop),
-        }
+        let name = read_name(alloc, *piece)?;
+        names.push(name)?;
     }
     Ok(names)
 }
@@ -60,10 +54,10 @@ pub(crate) fn read_path(alloc: Global, word: &[u8]) -> Result<Path, LineStop>
 {
     match word {
         [b'/'] => Ok(Path::from_names(h5_base::List::from_vec(Vec::new(alloc)))),
-        [b'/', text @ ..] => match read_names(alloc, text) {
-            Ok(names) => Ok(Path::from_names(h5_base::List::from_vec(names))),
-            Err(stop) => Err(stop),
-        },
+        [b'/', text @ ..] => {
+            let names = read_names(alloc, text)?;
+            Ok(Path::from_names(h5_base::List::from_vec(names)))
+        }
         _ => Err(LineStop::BadLine),
     }
 }
@@ -112,13 +106,9 @@ pub(crate) fn read_path_that(alloc: Global, leads: Leads, word: &[u8]) -> Result
     ensures found { IfOk result (λ p. IsPathThat leads word.now p) }
     ensures bad { result ≡ Err LineStop.BadLine → (p : List (List ℕ)) → IsPathThat leads word.now p → ⊥ }
 {
-    match read_path(alloc, word) {
-        Ok(path) => {
-            if !admits(leads, path.as_slice()) {
-                return Err(LineStop::BadLine);
-            }
-            Ok(path)
-        }
-        Err(stop) => Err(stop),
+    let path = read_path(alloc, word)?;
+    if !admits(leads, path.as_slice()) {
+        return Err(LineStop::BadLine);
     }
+    Ok(path)
 }

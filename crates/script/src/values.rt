@@ -44,10 +44,10 @@ fn take_quoted(alloc: Global, text: &[u8]) -> Result<(Value, &[u8]), LineStop>
     ensures bad { result ≡ Err LineStop.BadLine → (v : Value) → (more : List ℕ) → IsValue text.now v more → ⊥ }
 {
     match next_quoted(text) {
-        Some((inside, more)) => match read_text(alloc, Within::Quotes, inside) {
-            Ok(bytes) => Ok((Value::Text(Bytes::from_vec(bytes)), more)),
-            Err(stop) => Err(stop),
-        },
+        Some((inside, more)) => {
+            let bytes = read_text(alloc, Within::Quotes, inside)?;
+            Ok((Value::Text(Bytes::from_vec(bytes)), more))
+        }
         None => Err(LineStop::BadLine),
     }
 }
@@ -86,13 +86,9 @@ pub(crate) fn read_values(alloc: Global, text: &[u8]) -> Result<Vec<Value>, Line
     let mut values = Vec::new(alloc);
     let mut rest = text;
     while rest.len() > 0 {
-        match take_value(alloc, rest) {
-            Err(stop) => return Err(stop),
-            Ok((value, more)) => {
-                values.push(value)?;
-                rest = more;
-            }
-        }
+        let (value, more) = take_value(alloc, rest)?;
+        values.push(value)?;
+        rest = more;
     }
     Ok(values)
 }

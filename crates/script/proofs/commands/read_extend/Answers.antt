@@ -1,15 +1,16 @@
 use Rattle.std.proofs.Common.{◌≡◌, Err, [], ap}
+use Rattle.script.proofs.Carried.{carried}
 use Rattle.script.specs.declared.stop.LineStop.TheVariants.{BadLine}
 use Rattle.script.proofs.CommandLemmas.{no_extend, no_extend_path, no_extend_dims}
 use Rattle.script.proofs.commands.read_extend.Goals as goal
 
-pub returns-in-Err-clause-bad : goal.returns-in-Err-clause-bad
-returns-in-Err-clause-bad c = λ e.
-    let is : c.in-Err.stop ≡ BadLine = cc in
-    no_extend c.args.text.now (no_extend_path c.args.text.now (c.in-Err.ensures.bad (ap Err is)))
+pub returns-in_err-path-clause-bad : goal.returns-in_err-path-clause-bad
+returns-in_err-path-clause-bad c = λ e.
+    let is : c.in_err-path.field-0.0 ≡ BadLine = carried c.from_residual.result c.in_err-path.field-0.0 c.from_residual.ensures.1 e in
+    no_extend c.args.text.now (no_extend_path c.args.text.now (c.in_err-path.ensures.bad (ap Err is)))
 
-pub returns-in-Err-take_sizes-clause-bad : goal.returns-in-Err-take_sizes-clause-bad
-returns-in-Err-take_sizes-clause-bad c = λ e.
-    let is : c.in-Err-take_sizes.stop ≡ BadLine = cc in
+pub returns-in_err-dims-clause-bad : goal.returns-in_err-dims-clause-bad
+returns-in_err-dims-clause-bad c = λ e.
+    let is : c.in_err-dims.field-0.0 ≡ BadLine = carried c.from_residual-in_err-dims.result c.in_err-dims.field-0.0 c.from_residual-in_err-dims.ensures.1 e in
     no_extend c.args.text.now
-    (no_extend_dims c.args.text.now c.in-Ok.taken.0 c.in-Ok.taken.1.now c.in-Ok.ensures.found (λ d h. c.in-Err-take_sizes.ensures.bad (ap Err is) d [] h))
+    (no_extend_dims c.args.text.now c.in_ok-path.path c.in_ok-path.rest.now c.in_ok-path.ensures.found (λ d h. c.in_err-dims.ensures.bad (ap Err is) d [] h))

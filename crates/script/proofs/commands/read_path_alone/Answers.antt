@@ -1,8 +1,9 @@
 use Rattle.std.proofs.Common.{◌≡◌, Err, [], ap}
+use Rattle.script.proofs.Carried.{carried}
 use Rattle.script.specs.declared.stop.LineStop.TheVariants.{BadLine}
 use Rattle.script.proofs.commands.read_path_alone.Goals as goal
 
-pub returns-in-Err-clause-bad : goal.returns-in-Err-clause-bad
-returns-in-Err-clause-bad c = λ e p h.
-    let is : c.in-Err.stop ≡ BadLine = cc in
-    c.in-Err.ensures.bad (ap Err is) p [] h
+pub returns-in_err-path-clause-bad : goal.returns-in_err-path-clause-bad
+returns-in_err-path-clause-bad c = λ e p h.
+    let is : c.in_err-path.field-0.0 ≡ BadLine = carried c.from_residual.result c.in_err-path.field-0.0 c.from_residual.ensures.1 e in
+    c.in_err-path.ensures.bad (ap Err is) p [] h

@@ -1,4 +1,5 @@
 use Rattle.std.proofs.Common.{◌≡◌, Err, false, ap, rules}
+use Rattle.script.proofs.Carried.{carried}
 use Rattle.script.specs.declared.stop.LineStop.TheVariants.{BadLine}
 use Rattle.script.specs.Line.{admits}
 use Rattle.script.proofs.ArgumentLemmas.{not_admitted}
@@ -6,10 +7,10 @@ use Rattle.script.proofs.paths.read_path_that.Goals as goal
 
 pub returns-then-not-admits-clause-bad : goal.returns-then-not-admits-clause-bad
 returns-then-not-admits-clause-bad c = λ _.
-    let refused : admits c.args.leads c.in-Ok.path ≡ false = search rules in
-    not_admitted c.args.leads c.args.word.now c.in-Ok.path c.in-Ok.ensures.found refused
+    let refused : admits c.args.leads c.in_ok-path.path ≡ false = search rules in
+    not_admitted c.args.leads c.args.word.now c.in_ok-path.path c.in_ok-path.ensures.found refused
 
-pub returns-in-Err-clause-bad : goal.returns-in-Err-clause-bad
-returns-in-Err-clause-bad c = λ e p h.
-    let is : c.in-Err.stop ≡ BadLine = cc in
-    c.in-Err.ensures.bad (ap Err is) p h.path_is
+pub returns-in_err-path-clause-bad : goal.returns-in_err-path-clause-bad
+returns-in_err-path-clause-bad c = λ e p h.
+    let is : c.in_err-path.field-0.0 ≡ BadLine = carried c.from_residual.result c.in_err-path.field-0.0 c.from_residual.ensures.1 e in
+    c.in_err-path.ensures.bad (ap Err is) p h.path_is
