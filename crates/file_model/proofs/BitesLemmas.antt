@@ -4,7 +4,7 @@ use Rattle.std.specs.List.{flat_map}
 use Rattle.std.proofs.lemmas.Bool.Decides.{nat_tests}
 use Rattle.h5_base.specs.Fields.{u64_at}
 use Rattle.object_model.specs.Tree.{name_lt}
-use Rattle.file_model.specs.Places.{Block, AreApart, AreKept}
+use Rattle.outside.specs.Blocks.{Block, AreApart, AreKept}
 use Rattle.file_model.specs.Headers.{Met, continued, messages_of}
 use Rattle.file_model.specs.Groups.{Found, AreBetween}
 use Rattle.file_model.specs.Chunks.{AreMultiples}

@@ -5,7 +5,7 @@ use Rattle.object_model.specs.declared.answer.Code.{Code}
 use Rattle.object_model.specs.declared.answer.Code.TheVariants.{Absent}
 use Rattle.object_model.specs.Tree.{Group, Leaf, Empty, Link, Name, same_name, name_lt, find, walk, edit, insert, remove, replace, map_links}
 use Rattle.object_model.specs.Step.{Plain, PlainLinks}
-use Rattle.file_model.specs.Places.{Agree}
+use Rattle.outside.specs.Blocks.{Agree}
 use Rattle.file_model.specs.Groups.{Ks, Found}
 use Rattle.file_model.specs.Holds.{Full, FullLinks, GroupAt, founds, target_of, IsHeld, AreHeld, IsGroup, blocks_of, blocks_in, object_of, plain}
 use Rattle.file_model.specs.Laws.{EditLaw, InsertLaw, RemoveLaw, ReplaceLaw, PlainEdit, beside, beside_in}

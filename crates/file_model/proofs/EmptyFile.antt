@@ -1,6 +1,6 @@
 -- The empty file holds one group without links.
 use Rattle.std.proofs.Common.{List, [], ◌∷◌, refl, inl, inr, lit≤}
-use Rattle.outside.specs.Array.{array_of}
+use Rattle.outside.specs.Array.{array_of, bytes_of}
 use Rattle.h5_base.specs.declared.extent.MemClass.TheVariants.{Super}
 use Rattle.h5_base.specs.Fields.{u16_at, u32_at, u64_at}
 use Rattle.empty_file.specs.Empty.{empty_file, zeros}
@@ -12,7 +12,7 @@ use Rattle.node_codec.specs.Heap.{SpellsHeap}
 use Rattle.node_codec.specs.declared.group_node.GroupNode.{GroupNode}
 use Rattle.node_codec.specs.declared.heap.HeapHead.{HeapHead}
 use Rattle.object_model.specs.Tree.{Empty}
-use Rattle.file_model.specs.Places.{Block, bytes_of}
+use Rattle.outside.specs.Blocks.{Block}
 use Rattle.file_model.specs.Headers.{Met, Part, IsHeader}
 use Rattle.file_model.specs.Groups.{Ks, HasLinks}
 use Rattle.file_model.specs.Holds.{GroupAt, IsGroup, super_bytes_of}

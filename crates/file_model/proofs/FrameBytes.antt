@@ -2,8 +2,8 @@
 use Rattle.std.proofs.Common.{◌≡◌, ℕ, zero, suc, ◌+◌, ◌<◌, ◌≤◌, false, List, [], ◌∷◌, ◌++◌, refl, arith}
 use Rattle.std.specs.Prelude.{◌==◌}
 use Rattle.std.proofs.lemmas.Bool.{ne_eqb}
-use Rattle.outside.specs.Array.{Array}
-use Rattle.file_model.specs.Places.{Block, bytes_of, placed, Agree}
+use Rattle.outside.specs.Array.{Array, bytes_of}
+use Rattle.outside.specs.Blocks.{Block, placed, Agree}
 
 -- ---- bytes
 

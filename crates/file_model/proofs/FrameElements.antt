@@ -15,7 +15,7 @@ use Rattle.header_codec.specs.declared.types.Layout.TheVariants as layout
 use Rattle.node_codec.specs.declared.chunk_node.ChunkKey.{ChunkKey}
 use Rattle.object_model.specs.Boxes.{indices, place, minus, floor_to, all_lt}
 use Rattle.object_model.proofs.BoxLemmas.{and_both, and_true, place-lt, indices-below, map-each}
-use Rattle.file_model.specs.Places.{Block, placed, undefined, Agree}
+use Rattle.outside.specs.Blocks.{Block, placed, undefined, Agree}
 use Rattle.file_model.specs.Chunks.{Chunk, Under, AreChildren, IsNode, IsStored, IsIndex, IsStoredBy, IsIndexed, is_read, chunk_at, chunk_sizes, beyond, bytes_or, stored_at, elements_of}
 use Rattle.file_model.specs.Objects.{DataInfo, IsDataHeader}
 use Rattle.file_model.specs.Headers.{Met}

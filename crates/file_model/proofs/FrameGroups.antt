@@ -1,6 +1,6 @@
 -- The links of a group and the chunks of a dataset stay where the bytes of their blocks stay.
 use Rattle.std.proofs.Common.{ℕ, zero, suc, List, [], ◌∷◌, ◌++◌, Bool, true, false, length, subst}
-use Rattle.outside.specs.Array.{Array}
+use Rattle.outside.specs.Array.{Array, bytes_of}
 use Rattle.node_codec.specs.Snod.{SpellsSnod, snod_len}
 use Rattle.node_codec.specs.GroupNodes.{SpellsGroupNode, group_node_len}
 use Rattle.node_codec.specs.ChunkNodes.{SpellsChunkNode, chunk_node_len}
@@ -8,7 +8,7 @@ use Rattle.node_codec.specs.Heap.{SpellsHeap}
 use Rattle.node_codec.specs.declared.chunk_node.ChunkKey.{ChunkKey}
 use Rattle.header_codec.specs.declared.types.Layout.{Layout}
 use Rattle.header_codec.specs.declared.types.Layout.TheVariants as layout
-use Rattle.file_model.specs.Places.{Block, bytes_of, placed, Agree}
+use Rattle.outside.specs.Blocks.{Block, placed, Agree}
 use Rattle.file_model.specs.Objects.{DataInfo}
 use Rattle.file_model.specs.Groups.{Ks, Found, Under, AreChildren, IsLeaf, IsNode, IsIndex, HasLinks}
 use Rattle.file_model.specs.Chunks as chunks

@@ -5,7 +5,7 @@ use Rattle.std.proofs.lemmas.Grind.{flat_map-append}
 use Rattle.outside.specs.Array.{Array}
 use Rattle.header_codec.specs.Headers.{SpellsPrefix}
 use Rattle.header_codec.specs.declared.types.Prefix.{Prefix}
-use Rattle.file_model.specs.Places.{Block, Agree}
+use Rattle.outside.specs.Blocks.{Block, Agree}
 use Rattle.file_model.specs.Headers.{Stand, IsRead, Part, AreMet, IsHeader, continued, messages_of, header_blocks}
 use Rattle.file_model.proofs.FrameBytes.{Same, bytes_same, within_same, agree_both, agree_left, agree_right}
 

@@ -6,10 +6,10 @@ use Rattle.h5_base.specs.declared.extent.MemClass.TheVariants.{Super}
 use Rattle.h5_base.specs.Fields.{bytes_at, u32_at}
 use Rattle.super_codec.specs.Super.{Spells, super_len, version_of}
 use Rattle.super_codec.specs.declared.superblock.Superblock.{Superblock}
-use Rattle.outside.specs.Array.{Array}
+use Rattle.outside.specs.Array.{Array, bytes_of}
 use Rattle.object_model.specs.Tree.{Group, Leaf, Empty, Link}
 use Rattle.object_model.specs.Step.{Plain}
-use Rattle.file_model.specs.Places.{Block, Bounds, AllInside, AreKept, bytes_of, Agree}
+use Rattle.outside.specs.Blocks.{Block, Bounds, AllInside, AreKept, Agree}
 use Rattle.file_model.specs.Headers.{header_blocks, messages_of}
 use Rattle.file_model.specs.Groups.{Ks, Found}
 use Rattle.file_model.specs.Holds.{GroupAt, DataAt, OtherAt, LeafAt, DataLeaf, SoftLeaf, OtherLeaf, Full, FullLinks, IsGroup, IsData, IsUnknown, Unsupported, Later, IsLeafHeld, IsHeld, AreHeld, founds, leaf_blocks, blocks_of, blocks_in, later_header, ks_of, HasDriver, super_bytes_of, HoldsFull, Holds}

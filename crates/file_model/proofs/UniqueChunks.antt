@@ -1,12 +1,12 @@
 -- A dataset has one list of chunks.
 use Rattle.std.proofs.Common.{◌≡◌, ℕ, zero, suc, Bool, true, false, List, [], ◌∷◌, ◌++◌, length, sym, ◌∙◌, ap, subst}
-use Rattle.outside.specs.Array.{Array}
+use Rattle.outside.specs.Array.{Array, bytes_of}
 use Rattle.header_codec.specs.declared.types.Layout.{Layout}
 use Rattle.header_codec.specs.declared.types.Layout.TheVariants as layout
 use Rattle.node_codec.specs.ChunkNodes.{chunk_node_len, chunk_node_of}
 use Rattle.node_codec.specs.declared.chunk_node.ChunkNode.{ChunkNode}
 use Rattle.node_codec.specs.declared.chunk_node.ChunkKey.{ChunkKey}
-use Rattle.file_model.specs.Places.{Block, bytes_of}
+use Rattle.outside.specs.Blocks.{Block}
 use Rattle.file_model.specs.Objects.{DataInfo}
 use Rattle.file_model.specs.Chunks.{Chunk, Under, AreChildren, IsStored, IsNode, IsIndex, is_read, IsIndexed, IsStoredBy}
 

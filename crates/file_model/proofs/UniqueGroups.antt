@@ -2,14 +2,14 @@
 use Rattle.std.proofs.Common.{◌≡◌, ℕ, zero, suc, ◌+◌, ◌<◌, ◌≤◌, List, [], ◌∷◌, ◌++◌, length, get_or, drop, refl, sym, ◌∙◌, ap, subst, arith, inl, inr}
 use Rattle.std.proofs.lemmas.Bool.{cases_lt}
 use Rattle.std.proofs.lemmas.List.{get_or-take, get_or-drop}
-use Rattle.outside.specs.Array.{Array}
+use Rattle.outside.specs.Array.{Array, bytes_of}
 use Rattle.h5_base.specs.Fields.{bytes_at}
 use Rattle.node_codec.specs.Snod.{soft_value_at}
 use Rattle.node_codec.specs.GroupNodes.{group_node_len, group_node_of}
 use Rattle.node_codec.specs.declared.snod.SnodEntry.{SnodEntry}
 use Rattle.node_codec.specs.declared.group_node.GroupNode.{GroupNode}
 use Rattle.node_codec.specs.declared.heap.HeapHead.{HeapHead}
-use Rattle.file_model.specs.Places.{Block, bytes_of, placed}
+use Rattle.outside.specs.Blocks.{Block, placed}
 use Rattle.file_model.specs.Groups.{HasText, Target, Header, Text, Found, IsTarget, AreLinks, Under, AreChildren, Ks, IsLeaf, IsNode, IsIndex, HasLinks}
 
 -- the byte of a text is the segment's

@@ -1,7 +1,7 @@
 -- A header has one list of messages, and tells one thing.
 use Rattle.std.proofs.Common.{◌≡◌, ℕ, ◌+◌, ◌-◌, ◌<◌, ◌≤◌, List, [], ◌∷◌, ◌++◌, length, Option, Some, None, refl, sym, ◌∙◌, ap, subst, arith, inl, inr}
 use Rattle.std.specs.List.{flat_map}
-use Rattle.outside.specs.Array.{Array}
+use Rattle.outside.specs.Array.{Array, bytes_of}
 use Rattle.h5_base.specs.Fields.{bytes_at, u64_at}
 use Rattle.dtype.specs.Types.{size_of, SpellsType}
 use Rattle.dtype.specs.Shapes.{SpellsShape}
@@ -12,7 +12,7 @@ use Rattle.header_codec.specs.Layouts.{SpellsLayout}
 use Rattle.header_codec.specs.declared.types.Prefix.{Prefix}
 use Rattle.header_codec.specs.declared.types.Message.{Message}
 use Rattle.header_codec.specs.declared.types.Layout.{Layout}
-use Rattle.file_model.specs.Places.{Block, bytes_of}
+use Rattle.outside.specs.Blocks.{Block}
 use Rattle.file_model.specs.Headers.{Met, Stand, after, Part, IsRead, AreMet, IsHeader, continued}
 use Rattle.file_model.specs.Objects.{first_of, IsGroupHeader, DataInfo, HasFill, fill_bytes, IsDataHeader}
 

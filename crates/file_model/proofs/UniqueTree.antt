@@ -1,10 +1,9 @@
 -- The bytes of a file hold one tree.
 use Rattle.std.proofs.Common.{◌≡◌, ℕ, true, false, List, [], ◌∷◌, ◌++◌, is_some, refl, sym, ◌∙◌, ap, subst, arith}
-use Rattle.outside.specs.Array.{Array}
+use Rattle.outside.specs.Array.{Array, bytes_of}
 use Rattle.super_codec.specs.declared.superblock.Superblock.{Superblock}
 use Rattle.header_codec.specs.declared.types.Prefix.{Prefix}
 use Rattle.object_model.specs.Tree.{Group, Leaf, Empty, Link}
-use Rattle.file_model.specs.Places.{bytes_of}
 use Rattle.file_model.specs.Headers.{Met, Part, IsHeader, header_blocks, messages_of}
 use Rattle.file_model.specs.Objects.{has, DataInfo, IsGroupHeader, IsDataHeader}
 use Rattle.file_model.specs.Groups.{Ks, Found, Header, Text, HasLinks}

@@ -9,7 +9,7 @@ use Rattle.header_codec.specs.declared.types.Layout.TheVariants as layout
 use Rattle.header_codec.specs.declared.types.Prefix.{Prefix}
 use Rattle.node_codec.specs.declared.chunk_node.ChunkKey.{ChunkKey}
 use Rattle.object_model.specs.Tree.{Name, name_lt}
-use Rattle.file_model.specs.Places.{Block, Bounds, AreKept}
+use Rattle.outside.specs.Blocks.{Block, Bounds, AreKept}
 use Rattle.file_model.specs.Headers.{Met, Part, header_blocks}
 use Rattle.file_model.specs.Objects.{DataInfo, IsDataHeader}
 use Rattle.file_model.specs.Groups.{Ks, Found, HasText, AreChildren, IsLeaf, HasLinks}

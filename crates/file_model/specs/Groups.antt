@@ -2,7 +2,7 @@
 -- nodes), III.B and III.C (symbol table nodes and entries) and III.D (local heaps).
 -- Cited by what a file's bytes hold.
 use Rattle.std.specs.Prelude.{◌≡◌, ◌≢◌, ℕ, zero, suc, ◌+◌, ◌≤◌, ◌<◌, false, List, [], ◌∷◌, ◌++◌, length, slice_index, map, All, IsTrue}
-use Rattle.outside.specs.Array.{Array}
+use Rattle.outside.specs.Array.{Array, bytes_of}
 use Rattle.h5_base.specs.Fields.{bytes_at}
 use Rattle.node_codec.specs.Snod.{SpellsSnod, soft_value_at, snod_len}
 use Rattle.node_codec.specs.GroupNodes.{SpellsGroupNode, group_node_len}
@@ -11,7 +11,7 @@ use Rattle.node_codec.specs.declared.snod.SnodEntry.{SnodEntry}
 use Rattle.node_codec.specs.declared.group_node.GroupNode.{GroupNode}
 use Rattle.node_codec.specs.declared.heap.HeapHead.{HeapHead}
 use Rattle.object_model.specs.Tree.{Name, name_lt, AreOrdered}
-use Rattle.file_model.specs.Places.{Block, bytes_of, placed}
+use Rattle.outside.specs.Blocks.{Block, placed}
 
 -- The text stands in the segment at this offset, ended by a NUL.
 pub record HasText (segment : List ℕ) (at : ℕ) (text : List ℕ) : Type 0 where

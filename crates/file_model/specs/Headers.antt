@@ -3,11 +3,11 @@
 -- Cited by what says which object a header is.
 use Rattle.std.specs.Prelude.{◌≡◌, ℕ, ◌+◌, ◌-◌, ◌≤◌, ◌<◌, ◌==◌, ◌⊎◌, List, [], ◌∷◌, ◌++◌, length, if◌then◌else◌}
 use Rattle.std.specs.List.{flat_map}
-use Rattle.outside.specs.Array.{Array}
+use Rattle.outside.specs.Array.{Array, bytes_of}
 use Rattle.h5_base.specs.Fields.{bytes_at, u64_at}
 use Rattle.header_codec.specs.Headers.{SpellsPrefix, SpellsMessage}
 use Rattle.header_codec.specs.declared.types.Prefix.{Prefix}
-use Rattle.file_model.specs.Places.{Block, bytes_of, placed}
+use Rattle.outside.specs.Blocks.{Block, placed}
 
 -- a message that was met: its type, its flags and its data
 pub record Met : Type 0 where

@@ -1,7 +1,7 @@
 -- What the bytes of a file hold: the tree of its objects, by a tree that has each object's place in the file.
 -- Cited by what opens, reads and changes a file.
 use Rattle.std.specs.Prelude.{◌≡◌, ◌≢◌, ◌⊎◌, ℕ, ◌+◌, min, List, [], ◌∷◌, ◌++◌, slice_index, Option, Some, None}
-use Rattle.outside.specs.Array.{Array}
+use Rattle.outside.specs.Array.{Array, bytes_of}
 use Rattle.h5_base.specs.declared.extent.MemClass.TheVariants.{Super}
 use Rattle.h5_base.specs.Fields.{bytes_at, u32_at}
 use Rattle.super_codec.specs.Super.{Spells, super_len}
@@ -10,7 +10,7 @@ use Rattle.header_codec.specs.declared.types.Prefix.{Prefix}
 use Rattle.object_model.specs.Tree.{Tree, Group, Leaf, Links, Empty, Link, map_tree}
 use Rattle.object_model.specs.Data.{Data}
 use Rattle.object_model.specs.Step.{Plain, Object, Dataset, Soft, Other}
-use Rattle.file_model.specs.Places.{Block, Bounds, AreKept, bytes_of, undefined}
+use Rattle.outside.specs.Blocks.{Block, Bounds, AreKept, undefined}
 use Rattle.file_model.specs.Headers.{Part, IsHeader, header_blocks, messages_of}
 use Rattle.file_model.specs.Objects.{DataInfo, IsGroupHeader, IsDataHeader, IsOtherHeader, max_of}
 use Rattle.file_model.specs.Groups.{Ks, Found, Target, Header, Text, HasLinks}

@@ -7,7 +7,7 @@ use Rattle.super_codec.specs.declared.superblock.Superblock.{Superblock}
 use Rattle.h5_base.specs.declared.extent.MemClass.{MemClass}
 use Rattle.object_model.specs.Tree.{Group, Leaf, Empty, Link, Name, same_name, walk, edit, insert, remove, replace}
 use Rattle.object_model.specs.Step.{Plain, new_group}
-use Rattle.file_model.specs.Places.{Block, Bounds, Agree}
+use Rattle.outside.specs.Blocks.{Block, Bounds, Agree}
 use Rattle.file_model.specs.Groups.{Ks}
 use Rattle.file_model.specs.Holds.{Full, FullLinks, GroupAt, IsHeld, AreHeld, blocks_of, blocks_in, leaf_blocks, target_of, plain, Holds, HoldsFull}
 

@@ -1,4 +1,3 @@
-pub mod Places
 pub mod Headers
 pub mod Objects
 pub mod Groups

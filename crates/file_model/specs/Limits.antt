@@ -2,12 +2,12 @@
 -- Cited by what opens a file.
 use Rattle.std.specs.Prelude.{ℕ, ◌+◌, ◌≤◌, max, List, length}
 use Rattle.std.specs.List.{sum_by}
-use Rattle.outside.specs.Array.{Array}
+use Rattle.outside.specs.Array.{Array, bytes_of}
 use Rattle.header_codec.specs.declared.types.Prefix.{Prefix}
 use Rattle.node_codec.specs.Heap.{SpellsHeap}
 use Rattle.node_codec.specs.declared.heap.HeapHead.{HeapHead}
 use Rattle.object_model.specs.Tree.{Group, Leaf, Empty, Link}
-use Rattle.file_model.specs.Places.{Block, bytes_of}
+use Rattle.outside.specs.Blocks.{Block}
 use Rattle.file_model.specs.Headers.{Part, IsHeader, header_blocks}
 use Rattle.file_model.specs.Holds.{LeafAt, DataLeaf, SoftLeaf, OtherLeaf, Full, FullLinks}
 

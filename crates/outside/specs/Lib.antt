@@ -1,5 +1,11 @@
 pub mod Array
+pub mod Blocks
 pub mod Causes
 pub mod Files
 pub mod Ports
 pub mod Store
+pub mod Pages
+pub mod Moments
+pub mod Revisions
+pub mod Layer
+pub mod Space

@@ -1,0 +1,93 @@
+-- Where the blocks of a file lie: blocks, and the regions with their ends.
+-- Cited by what says which tree a file's bytes hold, and by what takes, reads and writes blocks.
+use Rattle.std.specs.Prelude.{◌≡◌, ℕ, ◌+◌, ◌≤◌, ◌<◌, ◌==◌, ◌⊎◌, max, List, [], ◌∷◌, length, Option, if◌then◌else◌}
+use Rattle.std.specs.List.{Contains}
+use Rattle.outside.specs.Array.{Array, Ends}
+use Rattle.h5_base.specs.declared.extent.MemClass.{MemClass}
+
+pub record Block : Type 0 where
+  pub start : ℕ
+  pub len : ℕ
+
+-- The regions of a stack: where each class begins, and where it ends. Classes of one region have one start and one end.
+-- Beside them the identification of the stack's own kind of driver information block, where it has one.
+pub record Bounds : Type 0 where
+  pub starts : MemClass → ℕ
+  pub ends : Ends
+  pub own : Option (List ℕ)
+
+-- no address lies in both
+abbrev pub AreApart : Block → Block → Type 0
+AreApart x y = (x.start + x.len ≤ y.start) ⊎ (y.start + y.len ≤ x.start)
+
+-- apart from each of a list
+abbrev pub IsApart : Block → List Block → Type 0
+IsApart x [] = Unit {0}
+IsApart x (y ∷ ys) = AreApart x y × IsApart x ys
+
+-- no address lies in two of them
+abbrev pub AllApart : List Block → Type 0
+AllApart [] = Unit {0}
+AllApart (x ∷ xs) = IsApart x xs × AllApart xs
+
+-- the block lies whole in one region, below its end
+abbrev pub IsInside : Bounds → Block → Type 0
+IsInside e x = (c : MemClass) × (e.starts c ≤ x.start) × (x.start + x.len ≤ e.ends c)
+
+abbrev pub AllInside : Bounds → List Block → Type 0
+AllInside e [] = Unit {0}
+AllInside e (x ∷ xs) = IsInside e x × AllInside e xs
+
+-- each block lies below an end, and no address lies in two
+pub record AreKept (e : Bounds) (blocks : List Block) : Type 0 where
+  pub apart : AllApart blocks
+  pub inside : AllInside e blocks
+
+-- an empty block has no place
+abbrev pub placed : ℕ → ℕ → List Block
+placed start len = if len == 0 then [] else (record { start = start; len = len } ∷ [])
+
+-- no address
+abbrev pub undefined : ℕ
+undefined = 0xFFFF_FFFF_FFFF_FFFF
+
+-- the two arrays have the same bytes in the blocks
+abbrev pub Agree : Array → Array → List Block → Type 0
+Agree b c [] = Unit {0}
+Agree b c (x ∷ xs) = ((i : ℕ) → x.start ≤ i → i < x.start + x.len → b i ≡ c i) × Agree b c xs
+
+-- ---- why a block is refused beside others
+
+-- so many blocks a file has at most
+abbrev pub most_blocks : ℕ
+most_blocks = 1048576
+
+-- one of the blocks begins there
+abbrev pub BeginsOne : List Block → ℕ → Type 0
+BeginsOne blocks at = (y : Block) × Contains blocks y × (y.start ≡ at)
+
+-- two blocks share an address, and this is the greater of their beginnings
+pub record Share (x y : Block) (at : ℕ) : Type 0 where
+  pub greater : at ≡ max x.start y.start
+  pub in_first : at < x.start + x.len
+  pub in_second : at < y.start + y.len
+
+-- where a block first shares an address with one of the others
+pub record IsOverlap (blocks : List Block) (x : Block) (at : ℕ) : Type 0 where
+  pub other : Block
+  pub one : Contains blocks other
+  pub share : Share x other at
+  pub least : (y : Block) (n : ℕ) → Contains blocks y → Share x y n → at ≤ n
+
+pub data BlockFault : Type 0 where
+  TooMany : BlockFault
+  LinkedTwice : ℕ → BlockFault
+  Overlap : ℕ → BlockFault
+  Outside : BlockFault
+
+-- A block of at least one byte is refused beside the blocks that were met before it: the first of these reasons.
+abbrev pub IsFault : Bounds → List Block → Block → BlockFault → Type 0
+IsFault e blocks x TooMany = most_blocks ≤ length blocks
+IsFault e blocks x (LinkedTwice at) = (length blocks < most_blocks) × (at ≡ x.start) × BeginsOne blocks x.start
+IsFault e blocks x (Overlap at) = (length blocks < most_blocks) × (¬ BeginsOne blocks x.start) × IsOverlap blocks x at
+IsFault e blocks x Outside = (length blocks < most_blocks) × (¬ BeginsOne blocks x.start) × IsApart x blocks × (¬ IsInside e x)

@@ -1,0 +1,183 @@
+-- What a space tells, and what each of its calls leaves of it.
+-- Cited by `Space`, by each space, and by whatever works on one.
+use Rattle.std.specs.Prelude.{◌≡◌, ◌⊎◌, ◌↔◌, ℕ, ◌+◌, ◌-◌, ◌*◌, ◌^◌, ◌<◌, ◌≤◌, ◌==◌, ◌&&◌, Bool, true, false, IsTrue, ℤ, List, [], ◌∷◌, ◌++◌, length, replicate, Option, Some, None, Result, OnOk, OnErr, IsErrOf, if◌then◌else◌}
+use Rattle.std.specs.List.{Contains}
+use Rattle.h5_base.specs.declared.extent.MemClass.{MemClass}
+use Rattle.h5_base.specs.declared.extent.Region.{Region}
+use Rattle.h5_base.specs.declared.extent.Extent.{Extent}
+use Rattle.outside.specs.Array.{Array, Ends, over, SameOutside}
+use Rattle.outside.specs.Blocks.{Bounds}
+use Rattle.outside.specs.Causes.{Rose}
+use Rattle.outside.specs.Moments.{HasTime}
+use Rattle.outside.specs.Pages.{ArePages, OrMet, OrMetByOne, OfEither}
+use Rattle.outside.specs.Revisions.{Stored, Committed, end_after, Revision, Commits}
+use Rattle.outside.specs.declared.space.WriteStop.{WriteStop}
+use Rattle.outside.specs.declared.space.WriteStop.TheVariants as stop
+use Rattle.outside.specs.declared.space.CommitStop.{CommitStop}
+use Rattle.outside.specs.declared.space.CommitStop.TheVariants as commit_stop
+use Rattle.outside.specs.declared.space.CommitAnswer.{CommitAnswer}
+use Rattle.outside.specs.declared.space.CommitAnswer.TheVariants as answer
+
+-- What a space tells: its bytes and where each class ends, its regions, whether it can be written, the ranges that it is
+-- prepared for, and its revisions where it has them.
+pub record SpaceView : Type 0 where
+  pub array : Array
+  pub ends : Ends
+  pub regions : MemClass → Region
+  pub writable : Bool
+  pub prepared : List Extent
+  pub committed : Option Committed
+
+-- where its classes begin and end, for a stack with this kind of driver information block
+abbrev pub bounds_of : SpaceView → Option (List ℕ) → Bounds
+bounds_of v own = record { starts = λ c. (v.regions c).start; ends = v.ends; own = own }
+
+-- Each end lies between the start and the limit of its region, of at most 2^48 bytes below 2^64, and two regions are
+-- equal or apart.
+pub record AreRegions (v : SpaceView) : Type 0 where
+  pub low : (c : MemClass) → (v.regions c).start ≤ v.ends c
+  pub high : (c : MemClass) → v.ends c ≤ (v.regions c).limit
+  pub small : (c : MemClass) → (v.regions c).limit ≤ (v.regions c).start + 2 ^ 48
+  pub fits : (c : MemClass) → (v.regions c).limit < 2 ^ 64
+  pub apart : (c d : MemClass) → ((v.regions c ≡ v.regions d) × (v.ends c ≡ v.ends d)) ⊎ ((v.regions c).limit ≤ (v.regions d).start) ⊎ ((v.regions d).limit ≤ (v.regions c).start)
+
+-- n bytes from an address on lie in the region of a class, below its end
+pub record LiesIn (v : SpaceView) (class : MemClass) (at n : ℕ) : Type 0 where
+  pub low : (v.regions class).start ≤ at
+  pub high : at + n ≤ v.ends class
+
+-- each of the n addresses is in one of the ranges
+abbrev pub AreCovered : List Extent → ℕ → ℕ → Type 0
+AreCovered ranges at n = (a : ℕ) → at ≤ a → a < at + n → (r : Extent) × Contains ranges r × (r.start ≤ a) × (a < r.start + r.len)
+
+-- the ranges stand in ascending order of their starts
+abbrev pub Ascend : List Extent → Type 0
+Ascend [] = Unit {0}
+Ascend (r ∷ []) = Unit {0}
+Ascend (r ∷ s ∷ rs) = (r.start ≤ s.start) × Ascend (s ∷ rs)
+
+-- the file with the revisions stays within 2^48 bytes when the ranges are written
+abbrev pub HasRoom : Option Committed → List Extent → Type 0
+HasRoom None ranges = Unit {0}
+HasRoom (Some c) ranges = (pages : List ℕ) → ArePages (OrMetByOne c.page c.written ranges) pages → c.committed_end + c.page * length pages ≤ 2 ^ 48
+
+-- A write or a raise may be done.
+pub record IsReady (v : SpaceView) (at n : ℕ) : Type 0 where
+  pub writable : IsTrue v.writable
+  pub covered : AreCovered v.prepared at n
+  pub room : HasRoom v.committed v.prepared
+
+-- ---- what calls leave
+
+-- the pages that a range meets are written from now on, and nothing else changes of what is committed
+pub record Writes (at n : ℕ) (old new : Committed) : Type 0 where
+  pub pages : ArePages (OrMet old.page old.written at n) new.written
+  pub others : new ≡ record old { written = new.written }
+
+abbrev pub TellsWritten : ℕ → ℕ → Option Committed → Option Committed → Type 0
+TellsWritten at n None new = new ≡ None
+TellsWritten at n (Some old) None = ⊥
+TellsWritten at n (Some old) (Some new) = Writes at n old new
+
+-- regions, whether it can be written and whether it has revisions never change
+pub record SameKind (old new : SpaceView) : Type 0 where
+  pub regions : new.regions ≡ old.regions
+  pub writable : new.writable ≡ old.writable
+  pub revisions : (new.committed ≡ None) ↔ (old.committed ≡ None)
+
+-- n bytes from `at` on were written
+pub record Wrote (at : ℕ) (bytes : List ℕ) (old new : SpaceView) : Type 0 where
+  pub array : new.array ≡ over old.array at bytes
+  pub ends : new.ends ≡ old.ends
+  pub prepared : new.prepared ≡ old.prepared
+  pub committed : TellsWritten at (length bytes) old.committed new.committed
+
+abbrev pub same_region : Region → Region → Bool
+same_region r s = r.start == s.start && r.limit == s.limit
+
+-- the ends after the end of a class was raised: classes of one region have one end
+abbrev pub raised : (MemClass → Region) → Ends → MemClass → ℕ → Ends
+raised regions ends class end = λ d. if same_region (regions d) (regions class) then end else ends d
+
+-- the end of a class was raised; the new bytes read as 0
+pub record Raised (class : MemClass) (end : ℕ) (old new : SpaceView) : Type 0 where
+  pub array : new.array ≡ over old.array (old.ends class) (replicate (end - old.ends class) 0)
+  pub ends : new.ends ≡ raised old.regions old.ends class end
+  pub prepared : new.prepared ≡ old.prepared
+  pub committed : TellsWritten (old.ends class) (end - old.ends class) old.committed new.committed
+
+-- each range that was given before, and is asked for again, stays given
+pub record StaysGiven (asked : List Extent) (old new : SpaceView) : Type 0 where
+  pub given : (r : Extent) → Contains old.prepared r → Contains asked r → Contains new.prepared r
+  pub others : new ≡ record old { prepared = new.prepared }
+
+-- ---- causes
+
+-- Neither count falls, and each fault comes only where its own count rose.
+pub record HasCauses {T : Type 0} (before now copy_before copy_now : ℕ) (result : Result T WriteStop) : Type 0 where
+  pub later : before ≤ now
+  pub copy_later : copy_before ≤ copy_now
+  pub failed : IsErrOf result stop.Failed → Rose before now
+  pub copy_failed : IsErrOf result stop.WoFailed → Rose copy_before copy_now
+
+pub record CommitCauses {T : Type 0} (before now copy_before copy_now : ℕ) (result : Result T CommitStop) : Type 0 where
+  pub later : before ≤ now
+  pub copy_later : copy_before ≤ copy_now
+  pub failed : IsErrOf result commit_stop.Failed → Rose before now
+  pub copy_failed : IsErrOf result commit_stop.WoFailed → Rose copy_before copy_now
+
+-- ---- commits
+
+-- A commit passes a limit: 65,535 revisions, or 2^48 bytes, when the ranges are written before it.
+pub data PassesLimit (c : Committed) (ranges : List Extent) (comment : List ℕ) : Type 0 where
+  Count : 65536 ≤ length c.revisions → PassesLimit c ranges comment
+  Bytes : (written recorded : List ℕ) → ArePages (OrMetByOne c.page c.written ranges) written → ArePages (OfEither c.recorded written) recorded
+      → 2 ^ 48 < end_after c (length written) (length recorded) (length comment) → PassesLimit c ranges comment
+
+-- Why a commit after writes in the ranges is refused: the first reason in this order, or none.
+abbrev pub IsRefusal : Option Committed → List Extent → List ℕ → ℤ → Option CommitAnswer → Type 0
+IsRefusal None ranges comment secs refusal = refusal ≡ Some answer.NoOnion
+IsRefusal (Some c) ranges comment secs refusal =
+    (PassesLimit c ranges comment × (refusal ≡ Some answer.Limit))
+    ⊎ ((¬ PassesLimit c ranges comment) × (¬ HasTime secs) × (refusal ≡ Some answer.Clock))
+    ⊎ ((¬ PassesLimit c ranges comment) × HasTime secs × (refusal ≡ None))
+
+-- what a commit that is done leaves: one more revision, and no range given
+pub record Committing (comment : List ℕ) (secs : ℤ) (rev pages : ℕ) (old new : SpaceView) : Type 0 where
+  pub before : Committed
+  pub after : Committed
+  pub had : old.committed ≡ Some before
+  pub commits : Commits before old.regions old.ends old.array comment secs rev pages after
+  pub others : new ≡ record old { prepared = []; committed = Some after }
+
+-- the answer of a commit, and what it leaves
+abbrev pub IsCommitted : List ℕ → ℤ → SpaceView → SpaceView → CommitAnswer → Type 0
+IsCommitted comment secs old new (answer.Done rev pages) = IsRefusal old.committed [] comment secs None × Committing comment secs rev pages old new
+IsCommitted comment secs old new a = IsRefusal old.committed [] comment secs (Some a) × (new ≡ old)
+
+-- ---- stops
+
+-- the lists of revisions that snapshots since a moment leave, by a test of a moment and a list
+abbrev pub Lists : Type 1
+Lists = ℕ → List Stored → Type 0
+
+-- Time goes on: what snapshots since an earlier moment leave was left before, or since the call began.
+abbrev pub Continue : ℕ → Lists → Lists → Type 0
+Continue began old new = (m : ℕ) (list : List Stored) → new m list → old m list ⊎ new began list
+
+-- Every snapshot since a moment leaves a list that is told of.
+abbrev pub LeaveOnly : ℕ → (List Stored → Type 0) → Lists → Type 0
+LeaveOnly began Told new = (list : List Stored) → new began list → Told list
+
+abbrev pub revisions_of : SpaceView → List Stored
+revisions_of v = listed v.committed
+  where
+    listed : Option Committed → List Stored
+    listed None = []
+    listed (Some c) = c.revisions
+
+-- the list as it was, or with the revision that the commit makes
+pub data MayBeMade (comment : List ℕ) (secs : ℤ) (v : SpaceView) (list : List Stored) : Type 0 where
+  Same : list ≡ revisions_of v → MayBeMade comment secs v list
+  More : (rev pages : ℕ) (before after : Committed) → v.committed ≡ Some before
+      → Commits before v.regions v.ends v.array comment secs rev pages after → list ≡ after.revisions → MayBeMade comment secs v list

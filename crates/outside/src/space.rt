@@ -1,0 +1,214 @@
+ghost use Rattle.std.specs.Prelude.{◌≡◌, ◌+◌, ◌-◌, ◌^◌, ◌≤◌, ◌↔◌, ℕ, ℤ, Bool, false, List, Some, None, length, IsTrue, IsErrOf, IfOk, OnOk, OnErr, Result};
+ghost use Rattle.outside.specs.Array.{bytes_of, over, SameOutside};
+ghost use Rattle.outside.specs.Causes.{HasCause};
+ghost use Rattle.outside.specs.Revisions.{Stored};
+ghost use Rattle.outside.specs.Space.{SpaceView, LiesIn, IsReady, HasRoom, Ascend, SameKind, Wrote, Raised, StaysGiven, HasCauses, IsRefusal, IsCommitted, CommitCauses, Continue, LeaveOnly, MayBeMade, AreRegions, raised, revisions_of};
+
+use crate::{Failed, Kept};
+use h5_base::{Comment, Extent, MemClass, NoMemory, Region};
+use thiserror::Error;
+
+/// Why bytes weren't written.
+#[derive(Clone, Copy, Debug, PartialEq, Eq, Error)]
+pub enum WriteStop {
+    #[error("fault")]
+    Failed,
+    /// A fault of the copy that a strict splitter writes; the main channel's call is done.
+    #[error("fault of the write-only file")]
+    WoFailed,
+}
+
+/// What came of a commit.
+#[derive(Clone, Copy, Debug, PartialEq, Eq)]
+pub enum CommitAnswer {
+    /// The revision made, and how many pages were written since the one before.
+    Done { rev: u32, pages: u64 },
+    /// The stack has no revisions.
+    NoOnion,
+    /// 65,535 revisions are there, or the file with them would pass 2^48 bytes.
+    Limit,
+    /// The moment is outside the years 1970 to 9999.
+    Clock,
+}
+
+/// Why a commit has no answer.
+#[derive(Clone, Copy, Debug, PartialEq, Eq, Error)]
+pub enum CommitStop {
+    #[error("out of memory")]
+    NoMemory,
+    #[error("fault")]
+    Failed,
+    #[error("fault of the write-only file")]
+    WoFailed,
+}
+
+/// A sparse array of bytes with an end for each region, which lies between the region's start and its limit. It keeps
+/// them in files of its own, and may have revisions. The regions of two classes are equal or apart.
+///
+/// The calls that write need room: they write within the ranges that `prepare` was last given, and take no memory.
+/// After `Failed` or `WoFailed` it may no longer stand, and then no further call may be made.
+pub trait Space: Kept {
+    /// It tells its bytes.
+    ghost tells: { Bool };
+
+    /// It tells which revisions a stop leaves.
+    ghost tells_stops: { Bool };
+
+    /// Its bytes, ends and regions, the ranges given to `prepare`, and its revisions.
+    ghost view: { Self → SpaceView };
+
+    /// It stands: its calls may be made.
+    ghost Stands: { Self → Type 0 };
+
+    /// The faults of its files, other than those of a strict splitter's copy.
+    ghost faults: { Self → ℕ };
+
+    /// The faults of a strict splitter's copy.
+    ghost copy_faults: { Self → ℕ };
+
+    /// Its files last as they read: a stop leaves just these bytes.
+    ghost Rests: { Self → Type 0 };
+
+    /// The number of calls on the outside so far.
+    ghost moment: { Self → ℕ };
+
+    /// Every image that a stop now may leave has just the committed revisions.
+    ghost Steady: { Self → Type 0 };
+
+    /// The lists of revisions that the snapshots since a moment leave, without those that agree by chance alone.
+    ghost Leaves: { Self → ℕ → List Stored → Type 0 };
+
+    /// Gives the bytes from `at` on, 0 where nothing is.
+    fn read(&mut self, at: u64, out: &mut [u8]) -> Result<(), Failed>
+        requires stands { Stands self.old }
+        requires fits { at + length out.old ≤ 2 ^ 64 }
+        ensures bytes { IsTrue tells → OnOk result (out.new ≡ bytes_of (view self.old).array at (length out.old)) }
+        ensures alike { Self.Alike self.old self.new }
+        ensures stands { OnOk result (Stands self.new) }
+        ensures cause { HasCause (faults self.old) (faults self.new) result }
+        ensures copy { copy_faults self.old ≤ copy_faults self.new }
+        ensures rests { OnOk result (Rests self.old → Rests self.new) }
+        ensures moment { moment self.old ≤ moment self.new }
+        ensures steady { IsTrue tells_stops → Steady self.old → OnOk result (Steady self.new) }
+        ensures leaves { IsTrue tells_stops → Steady self.old → LeaveOnly (moment self.old) (λ list. list ≡ revisions_of (view self.old)) (Leaves self.new) }
+        ensures past { IsTrue tells_stops → Continue (moment self.old) (Leaves self.old) (Leaves self.new) };
+
+    /// Writes the bytes from `at` on, a range within one region below its end. After `Failed` the bytes in the range
+    /// may be any; after `WoFailed` they are written.
+    fn write(&mut self, at: u64, bytes: &[u8]) -> Result<(), WriteStop>
+        requires stands { Stands self.old }
+        requires inside { (class : MemClass) × LiesIn (view self.old) class at (length bytes.now) }
+        requires ready { IsReady (view self.old) at (length bytes.now) }
+        ensures wrote { IsTrue tells → OnOk result (Wrote at bytes.now (view self.old) (view self.new)) }
+        ensures wrote_main { IsTrue tells → IsErrOf result WriteStop.WoFailed → (view self.new).array ≡ over (view self.old).array at bytes.now }
+        ensures in_part { IsTrue tells → IsErrOf result WriteStop.Failed → SameOutside at (length bytes.now) (view self.old).array (view self.new).array }
+        ensures ends { (view self.new).ends ≡ (view self.old).ends }
+        ensures same { OnOk result ((view self.new).prepared ≡ (view self.old).prepared) }
+        ensures kind { SameKind (view self.old) (view self.new) }
+        ensures stands { OnOk result (Stands self.new) }
+        ensures cause { HasCauses (faults self.old) (faults self.new) (copy_faults self.old) (copy_faults self.new) result }
+        ensures moment { moment self.old ≤ moment self.new }
+        ensures steady { IsTrue tells_stops → Steady self.old → OnOk result (Steady self.new) }
+        ensures leaves { IsTrue tells_stops → Steady self.old → LeaveOnly (moment self.old) (λ list. list ≡ revisions_of (view self.old)) (Leaves self.new) }
+        ensures past { IsTrue tells_stops → Continue (moment self.old) (Leaves self.old) (Leaves self.new) };
+
+    /// Moves the end of a region up to `end`, which is at most its limit. The new bytes read as 0.
+    fn raise(&mut self, class: MemClass, end: u64) -> Result<(), WriteStop>
+        requires stands { Stands self.old }
+        requires up { (view self.old).ends class ≤ end }
+        requires below { end ≤ ((view self.old).regions class).limit }
+        requires ready { IsReady (view self.old) ((view self.old).ends class) (end - (view self.old).ends class) }
+        ensures raised { IsTrue tells → OnOk result (Raised class end (view self.old) (view self.new)) }
+        ensures in_part { IsTrue tells → OnErr result (SameOutside ((view self.old).ends class) (end - (view self.old).ends class) (view self.old).array (view self.new).array) }
+        ensures ends { OnOk result ((view self.new).ends ≡ raised (view self.old).regions (view self.old).ends class end) }
+        ensures same { OnOk result ((view self.new).prepared ≡ (view self.old).prepared) }
+        ensures kind { SameKind (view self.old) (view self.new) }
+        ensures stands { OnOk result (Stands self.new) }
+        ensures cause { HasCauses (faults self.old) (faults self.new) (copy_faults self.old) (copy_faults self.new) result }
+        ensures moment { moment self.old ≤ moment self.new }
+        ensures steady { IsTrue tells_stops → Steady self.old → OnOk result (Steady self.new) }
+        ensures leaves { IsTrue tells_stops → Steady self.old → LeaveOnly (moment self.old) (λ list. list ≡ revisions_of (view self.old)) (Leaves self.new) }
+        ensures past { IsTrue tells_stops → Continue (moment self.old) (Leaves self.old) (Leaves self.new) };
+
+    /// Makes room for writes and raises in these ranges, in ascending order of their starts, and for no others.
+    fn prepare(&mut self, ranges: &Vec<Extent>) -> Result<(), NoMemory>
+        requires stands { Stands self.old }
+        requires ascend { Ascend ranges.now.items }
+        ensures prepared { OnOk result (view self.new ≡ record (view self.old) { prepared = ranges.now.items }) }
+        ensures kept { OnErr result (StaysGiven ranges.now.items (view self.old) (view self.new)) }
+        ensures stands { Stands self.new }
+        ensures faults { faults self.new ≡ faults self.old }
+        ensures copy { copy_faults self.new ≡ copy_faults self.old }
+        ensures rests { Rests self.old → Rests self.new }
+        ensures moment { moment self.new ≡ moment self.old }
+        ensures steady { IsTrue tells_stops → Steady self.old → Steady self.new }
+        ensures past { IsTrue tells_stops → (m : ℕ) (list : List Stored) → Leaves self.new m list → Leaves self.old m list };
+
+    /// Makes all files last as they read.
+    fn settle(&mut self) -> Result<(), WriteStop>
+        requires stands { Stands self.old }
+        requires writable { IsTrue (view self.old).writable }
+        ensures same { OnOk result (view self.new ≡ view self.old) }
+        ensures array { IsTrue tells → (view self.new).array ≡ (view self.old).array }
+        ensures ends { (view self.new).ends ≡ (view self.old).ends }
+        ensures kind { SameKind (view self.old) (view self.new) }
+        ensures stands { OnOk result (Stands self.new) }
+        ensures rests { OnOk result (Rests self.new) }
+        ensures cause { HasCauses (faults self.old) (faults self.new) (copy_faults self.old) (copy_faults self.new) result }
+        ensures moment { moment self.old ≤ moment self.new }
+        ensures steady { IsTrue tells_stops → Steady self.old → OnOk result (Steady self.new) }
+        ensures leaves { IsTrue tells_stops → Steady self.old → LeaveOnly (moment self.old) (λ list. list ≡ revisions_of (view self.old)) (Leaves self.new) }
+        ensures past { IsTrue tells_stops → Continue (moment self.old) (Leaves self.old) (Leaves self.new) };
+
+    fn region(&self, class: MemClass) -> Region
+        ensures { result ≡ (view self.now).regions class };
+
+    fn end(&self, class: MemClass) -> u64
+        ensures { result ≡ (view self.now).ends class };
+
+    /// False exactly where the space was opened at a revision.
+    fn writable(&self) -> bool
+        ensures { result ≡ (view self.now).writable };
+
+    /// Whether the stack has revisions.
+    fn has_onion(&self) -> bool
+        ensures { (result ≡ false) ↔ ((view self.now).committed ≡ None) };
+
+    /// Whether the file with the revisions stays within 2^48 bytes when the ranges are written, which ascend by their
+    /// starts; true without revisions.
+    fn room_left(&self, ranges: &Vec<Extent>) -> bool
+        requires { Ascend ranges.now.items }
+        ensures { IsTrue result ↔ HasRoom (view self.now).committed ranges.now.items };
+
+    /// The answer other than `Done` that a commit after writes in the ranges, which ascend by their starts, would give.
+    fn commit_refusal(
+        &self,
+        ranges: &Vec<Extent>,
+        comment: &Comment,
+        secs: i64,
+    ) -> Option<CommitAnswer>
+        requires { Ascend ranges.now.items }
+        ensures { IsRefusal (view self.now).committed ranges.now.items comment.now secs result };
+
+    /// Makes a revision of the bytes as they are, with this comment, at a moment in seconds since 1970.
+    fn commit(&mut self, comment: &Comment, secs: i64) -> Result<CommitAnswer, CommitStop>
+        requires stands { Stands self.old }
+        requires writable { IsTrue (view self.old).writable }
+        ensures answer { IfOk result (λ a. IsCommitted comment.now secs (view self.old) (view self.new) a) }
+        ensures no_memory { IsErrOf result CommitStop.NoMemory → view self.new ≡ view self.old }
+        ensures kind { SameKind (view self.old) (view self.new) }
+        ensures stands { OnOk result (Stands self.new) }
+        ensures stands_still { IsErrOf result CommitStop.NoMemory → Stands self.new }
+        ensures cause { CommitCauses (faults self.old) (faults self.new) (copy_faults self.old) (copy_faults self.new) result }
+        ensures moment { moment self.old ≤ moment self.new }
+        ensures steady { IsTrue tells_stops → Steady self.old → OnOk result (Steady self.new) }
+        ensures steady_still { IsTrue tells_stops → Steady self.old → IsErrOf result CommitStop.NoMemory → Steady self.new }
+        ensures leaves { IsTrue tells_stops → Steady self.old → LeaveOnly (moment self.old) (λ list. MayBeMade comment.now secs (view self.old) list) (Leaves self.new) }
+        ensures past { IsTrue tells_stops → Continue (moment self.old) (Leaves self.old) (Leaves self.new) };
+
+    /// Alike spaces tell the same.
+    ghost alike: { (a b : Self) → Self.Alike a b → view a ≡ view b };
+
+    /// Each end lies between the start and the limit of its region, and all numbers are of 64 bits.
+    ghost sound: { (a : Self) → AreRegions (view a) };
+}
