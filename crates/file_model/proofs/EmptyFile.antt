@@ -89,7 +89,7 @@ ks : Ks
 ks = record { leaf = 4; internal = 16; chunk = 32 }
 
 index : List Block
-index = record { start = 136; len = 544 } ∷ record { start = 680; len = 32 } ∷ record { start = 712; len = 88 } ∷ []
+index = record { start = 680; len = 32 } ∷ record { start = 712; len = 88 } ∷ record { start = 136; len = 544 } ∷ []
 
 root_node : SpellsGroupNode 16 node (bytes_of (array_of empty_file) 136 544)
 unfolding node empty_file zeros u16_at u32_at u64_at
@@ -146,7 +146,7 @@ empty_holds = record {
     root = refl;
     held = (group, tt);
     kept = record {
-      apart = ((inl (lit≤ tt), (inl (lit≤ tt), (inl (lit≤ tt), (inl (lit≤ tt), tt)))), ((inl (lit≤ tt), (inl (lit≤ tt), (inl (lit≤ tt), tt))), ((inl (lit≤ tt), (inl (lit≤ tt), tt)), ((inl (lit≤ tt), tt), (tt, tt)))));
+      apart = ((inl (lit≤ tt), (inl (lit≤ tt), (inl (lit≤ tt), (inl (lit≤ tt), tt)))), ((inl (lit≤ tt), (inl (lit≤ tt), (inl (lit≤ tt), tt))), ((inl (lit≤ tt), (inr (lit≤ tt), tt)), ((inr (lit≤ tt), tt), (tt, tt)))));
       inside = ((Super, lit≤ tt, lit≤ tt), ((Super, lit≤ tt, lit≤ tt), ((Super, lit≤ tt, lit≤ tt), ((Super, lit≤ tt, lit≤ tt), ((Super, lit≤ tt, lit≤ tt), tt)))));
     };
   };

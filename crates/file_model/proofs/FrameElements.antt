@@ -85,23 +85,23 @@ chunks_both b c n (x ∷ xs) ys h k = (h.0, chunks_both b c n xs ys h.1 k)
 abbrev ChildSame : Array → Array → ℕ → Under → Type 0
 ChildSame b c n Child = (key : ChunkKey) (at : ℕ) (cs : List Chunk) (bs : List Block) → Child key at cs bs → Agree b c bs → ChunksSame b c n cs
 
-children_same : (b c : Array) (n : ℕ) (Child : Under) → ChildSame b c n Child → (keys : List ChunkKey) (children : List ℕ) (cs : List Chunk) (bs : List Block)
-    → AreChildren Child keys children cs bs → Agree b c bs → ChunksSame b c n cs
-children_same b c n Child same keys [] cs bs h agree = subst (ChunksSame b c n) (sym h.0) tt
-children_same b c n Child same [] (a ∷ rest) cs bs h agree = absurd h
-children_same b c n Child same (k ∷ []) (a ∷ rest) cs bs h agree = absurd h
-children_same b c n Child same (k ∷ l ∷ ks) (a ∷ rest) cs bs (here, later, own, more, child, others, above, most, cs_is, bs_is) agree =
+children_same : (b c : Array) (n : ℕ) (Child : Under) → ChildSame b c n Child → (first : Bool) (keys : List ChunkKey) (children : List ℕ) (cs : List Chunk) (bs : List Block)
+    → AreChildren Child first keys children cs bs → Agree b c bs → ChunksSame b c n cs
+children_same b c n Child same first keys [] cs bs h agree = subst (ChunksSame b c n) (sym h.0) tt
+children_same b c n Child same first [] (a ∷ rest) cs bs h agree = absurd h
+children_same b c n Child same first (k ∷ []) (a ∷ rest) cs bs h agree = absurd h
+children_same b c n Child same first (k ∷ l ∷ ks) (a ∷ rest) cs bs (here, later, own, more, child, others, above, most, cs_is, bs_is) agree =
     let both : Agree b c (own ++ more) = subst (Agree b c) bs_is agree in
     subst (ChunksSame b c n) (sym cs_is)
     (chunks_both b c n here later (same k a here own child (agree_left b c own more both))
-    (children_same b c n Child same (l ∷ ks) rest later more others (agree_right b c own more both)))
+    (children_same b c n Child same false (l ∷ ks) rest later more others (agree_right b c own more both)))
 
 stored_same : (b c : Array) (rank : ℕ) (sizes : List ℕ) → ChildSame b c (product sizes) (IsStored rank sizes)
 stored_same b c rank sizes key at cs bs h agree = subst (ChunksSame b c (product sizes)) (sym h.chunk) ((subst (Agree b c) h.block agree).0, tt)
 
 node_same : (b c : Array) (k rank n level : ℕ) (Child : Under) → ChildSame b c n Child → (at : ℕ) (cs : List Chunk) (bs : List Block) → IsNode b k rank level Child at cs bs → Agree b c bs → ChunksSame b c n cs
 node_same b c k rank n level Child same at cs bs h agree =
-    children_same b c n Child same h.node.keys h.node.children cs h.below h.children (subst (Agree b c) h.blocks agree).1
+    children_same b c n Child same true h.node.keys h.node.children cs h.below h.children (subst (Agree b c) h.blocks agree).1
 
 pub chunks_same : (b c : Array) (k rank : ℕ) (sizes : List ℕ) (level tree : ℕ) (cs : List Chunk) (bs : List Block) → IsIndex b k rank sizes level tree cs bs → Agree b c bs → ChunksSame b c (product sizes) cs
 chunks_same b c k rank sizes zero = node_same b c k rank (product sizes) 0 (IsStored rank sizes) (stored_same b c rank sizes)

@@ -70,13 +70,13 @@ index_stays b c ks segment (suc level) =
 
 pub links_stay : (b c : Array) (ks : Ks) (tree heap : ℕ) (fs : List Found) (bs : List Block) → Agree b c bs → HasLinks b ks tree heap fs bs → HasLinks c ks tree heap fs bs
 links_stay b c ks tree heap fs bs agree h =
-    let all : Agree b c (h.nodes ++ (record { start = heap; len = 32 } ∷ placed h.head.segment_at h.head.len)) = subst (Agree b c) h.blocks agree in
-    let nodes = agree_left b c h.nodes (record { start = heap; len = 32 } ∷ placed h.head.segment_at h.head.len) all in
-    let blocks = agree_right b c h.nodes (record { start = heap; len = 32 } ∷ placed h.head.segment_at h.head.len) all in
-    let segment = bytes_same b c h.head.segment_at h.head.len (placed_same b c h.head.segment_at h.head.len blocks.1) in
+    let all : Agree b c (record { start = heap; len = 32 } ∷ placed h.head.segment_at h.head.len ++ h.nodes) = subst (Agree b c) h.blocks agree in
+    let nodes = agree_right b c (placed h.head.segment_at h.head.len) h.nodes all.1 in
+    let text = agree_left b c (placed h.head.segment_at h.head.len) h.nodes all.1 in
+    let segment = bytes_same b c h.head.segment_at h.head.len (placed_same b c h.head.segment_at h.head.len text) in
     record {
       head = h.head;
-      spelled = subst (SpellsHeap h.head) (bytes_same b c heap 32 blocks.0) h.spelled;
+      spelled = subst (SpellsHeap h.head) (bytes_same b c heap 32 all.0) h.spelled;
       level = h.level;
       nodes = h.nodes;
       index = subst (λ s. IsIndex c ks s h.level tree fs h.nodes) segment
@@ -91,19 +91,19 @@ links_stay b c ks tree heap fs bs agree h =
 abbrev ChunkStays : Array → Array → chunks.Under → chunks.Under → Type 0
 ChunkStays b c Child After = (key : ChunkKey) (at : ℕ) (cs : List chunks.Chunk) (bs : List Block) → Child key at cs bs → Agree b c bs → After key at cs bs
 
-chunk_children_stay : (b c : Array) (Child After : chunks.Under) → ChunkStays b c Child After → (keys : List ChunkKey) (children : List ℕ) (cs : List chunks.Chunk) (bs : List Block)
-    → chunks.AreChildren Child keys children cs bs → Agree b c bs → chunks.AreChildren After keys children cs bs
-chunk_children_stay b c Child After stays keys [] cs bs h agree = h
-chunk_children_stay b c Child After stays [] (a ∷ rest) cs bs h agree = h
-chunk_children_stay b c Child After stays (k ∷ []) (a ∷ rest) cs bs h agree = h
-chunk_children_stay b c Child After stays (k ∷ l ∷ ks) (a ∷ rest) cs bs (here, later, own, more, child, others, above, most, cs_is, bs_is) agree =
+chunk_children_stay : (b c : Array) (Child After : chunks.Under) → ChunkStays b c Child After → (first : Bool) (keys : List ChunkKey) (children : List ℕ) (cs : List chunks.Chunk) (bs : List Block)
+    → chunks.AreChildren Child first keys children cs bs → Agree b c bs → chunks.AreChildren After first keys children cs bs
+chunk_children_stay b c Child After stays first keys [] cs bs h agree = h
+chunk_children_stay b c Child After stays first [] (a ∷ rest) cs bs h agree = h
+chunk_children_stay b c Child After stays first (k ∷ []) (a ∷ rest) cs bs h agree = h
+chunk_children_stay b c Child After stays first (k ∷ l ∷ ks) (a ∷ rest) cs bs (here, later, own, more, child, others, above, most, cs_is, bs_is) agree =
     let both : Agree b c (own ++ more) = subst (Agree b c) bs_is agree in (
       here,
       later,
       own,
       more,
       stays k a here own child (agree_left b c own more both),
-      chunk_children_stay b c Child After stays (l ∷ ks) rest later more others (agree_right b c own more both),
+      chunk_children_stay b c Child After stays false (l ∷ ks) rest later more others (agree_right b c own more both),
       above,
       most,
       cs_is,
@@ -119,7 +119,7 @@ chunk_node_stays b c k rank level Child After stays at cs bs h agree =
       spelled = subst (SpellsChunkNode k rank h.node) (bytes_same b c at (chunk_node_len k rank) same.0) h.spelled;
       level_is = h.level_is;
       below = h.below;
-      children = chunk_children_stay b c Child After stays h.node.keys h.node.children cs h.below h.children same.1;
+      children = chunk_children_stay b c Child After stays true h.node.keys h.node.children cs h.below h.children same.1;
       blocks = h.blocks;
     }
 

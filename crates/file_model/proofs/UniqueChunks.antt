@@ -17,14 +17,14 @@ Same cs ds bs es = (cs ≡ ds) × (bs ≡ es)
 abbrev pub IsOne : Under → Type 0
 IsOne Child = (key : ChunkKey) (at : ℕ) (cs ds : List Chunk) (bs es : List Block) → Child key at cs bs → Child key at ds es → Same cs ds bs es
 
-children_same : (Child : Under) → IsOne Child → (keys : List ChunkKey) (children : List ℕ) (cs ds : List Chunk) (bs es : List Block) → AreChildren Child keys children cs bs → AreChildren Child keys children ds es → Same cs ds bs es
-children_same Child one keys [] cs ds bs es a b = (a.0 ∙ sym b.0, a.1 ∙ sym b.1)
-children_same Child one [] (c ∷ rest) cs ds bs es a b = absurd a
-children_same Child one (k ∷ []) (c ∷ rest) cs ds bs es a b = absurd a
-children_same Child one (k ∷ l ∷ ks) (c ∷ rest) cs ds bs es x y =
-    let first = one k c x.0 y.0 x.2 y.2 x.4 y.4 in
-    let next = children_same Child one (l ∷ ks) rest x.1 y.1 x.3 y.3 x.5 y.5 in
-    (x.8 ∙ (λ j. first.0 j ++ next.0 j) ∙ sym y.8, x.9 ∙ (λ j. first.1 j ++ next.1 j) ∙ sym y.9)
+children_same : (Child : Under) → IsOne Child → (first : Bool) (keys : List ChunkKey) (children : List ℕ) (cs ds : List Chunk) (bs es : List Block) → AreChildren Child first keys children cs bs → AreChildren Child first keys children ds es → Same cs ds bs es
+children_same Child one first keys [] cs ds bs es a b = (a.0 ∙ sym b.0, a.1 ∙ sym b.1)
+children_same Child one first [] (c ∷ rest) cs ds bs es a b = absurd a
+children_same Child one first (k ∷ []) (c ∷ rest) cs ds bs es a b = absurd a
+children_same Child one first (k ∷ l ∷ ks) (c ∷ rest) cs ds bs es x y =
+    let one_child = one k c x.0 y.0 x.2 y.2 x.4 y.4 in
+    let next = children_same Child one false (l ∷ ks) rest x.1 y.1 x.3 y.3 x.5 y.5 in
+    (x.8 ∙ (λ j. one_child.0 j ++ next.0 j) ∙ sym y.8, x.9 ∙ (λ j. one_child.1 j ++ next.1 j) ∙ sym y.9)
 
 stored_same : (rank : ℕ) (sizes : List ℕ) → IsOne (IsStored rank sizes)
 stored_same rank sizes key at cs ds bs es h k = (h.chunk ∙ sym k.chunk, h.block ∙ sym k.block)
@@ -33,8 +33,8 @@ stored_same rank sizes key at cs ds bs es h k = (h.chunk ∙ sym k.chunk, h.bloc
 node_same : (b : Array) (k rank level : ℕ) (Child : Under) → IsOne Child → (at : ℕ) (cs ds : List Chunk) (bs es : List Block) → IsNode b k rank level Child at cs bs → IsNode b k rank level Child at ds es → Same cs ds bs es
 node_same b k rank level Child one at cs ds bs es h g =
     let node : h.node ≡ g.node = h.spelled.value ∙ sym g.spelled.value in
-    let below = children_same Child one h.node.keys h.node.children cs ds h.below g.below h.children
-    (subst (λ (n : ChunkNode). AreChildren Child n.keys n.children ds g.below) (sym node) g.children) in
+    let below = children_same Child one true h.node.keys h.node.children cs ds h.below g.below h.children
+    (subst (λ (n : ChunkNode). AreChildren Child true n.keys n.children ds g.below) (sym node) g.children) in
     (below.0, h.blocks ∙ ap (λ (l : List Block). record { start = at; len = chunk_node_len k rank } ∷ l) below.1 ∙ sym g.blocks)
 
 index_same : (b : Array) (k rank : ℕ) (sizes : List ℕ) (level at : ℕ) (cs ds : List Chunk) (bs es : List Block) → IsIndex b k rank sizes level at cs bs → IsIndex b k rank sizes level at ds es → Same cs ds bs es

@@ -92,6 +92,6 @@ links_are b ks tree heap fs gs bs cs h k =
     let same = index_same b ks s h.level tree fs gs h.nodes k.nodes h.index (subst (λ (n : ℕ). IsIndex b ks s n tree gs k.nodes) (sym level) other) in (
       same.0,
       h.blocks
-          ∙ (λ j. same.1 j ++ (record { start = heap; len = 32 } ∷ placed (head j).segment_at (head j).len))
+          ∙ (λ j. record { start = heap; len = 32 } ∷ placed (head j).segment_at (head j).len ++ same.1 j)
           ∙ sym k.blocks,
     )

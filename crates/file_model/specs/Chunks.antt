@@ -57,15 +57,24 @@ IsAtMost key (c ∷ cs) = (comes_before c.offset key ≡ false) × IsAtMost key 
 abbrev pub Under : Type 1
 Under = ChunkKey → ℕ → List Chunk → List Block → Type 0
 
--- Children with the keys before them: a key between two children is above every offset under the first, and at most
--- every later one. The first key and the last are free.
-abbrev pub AreChildren : Under → List ChunkKey → List ℕ → List Chunk → List Block → Type 0
-AreChildren Child keys [] cs bs = (cs ≡ []) × (bs ≡ [])
-AreChildren Child [] (a ∷ rest) cs bs = ⊥
-AreChildren Child (k ∷ []) (a ∷ rest) cs bs = ⊥
-AreChildren Child (k ∷ l ∷ ks) (a ∷ rest) cs bs =
-    (here later : List Chunk) × (own more : List Block) × Child k a here own × AreChildren Child (l ∷ ks) rest later more
-    × IsAbove l.offset here × IsAtMost l.offset later × (cs ≡ here ++ later) × (bs ≡ own ++ more)
+-- the key before a child is at most each offset under it; the first key of a node is free
+abbrev pub IsFrom : (first : Bool) → List ℕ → List Chunk → Type 0
+IsFrom true key cs = Unit {0}
+IsFrom false key cs = IsAtMost key cs
+
+-- the key behind a child is above each offset under it; behind the last child it is free
+abbrev pub IsBelow : (later : List ℕ) → List ℕ → List Chunk → Type 0
+IsBelow [] key cs = Unit {0}
+IsBelow (a ∷ later) key cs = IsAbove key cs
+
+-- Children and the keys on both sides of each: the chunks in order, and the blocks.
+abbrev pub AreChildren : Under → (first : Bool) → List ChunkKey → List ℕ → List Chunk → List Block → Type 0
+AreChildren Child first keys [] cs bs = (cs ≡ []) × (bs ≡ [])
+AreChildren Child first [] (a ∷ rest) cs bs = ⊥
+AreChildren Child first (k ∷ []) (a ∷ rest) cs bs = ⊥
+AreChildren Child first (k ∷ l ∷ ks) (a ∷ rest) cs bs =
+    (here later : List Chunk) × (own more : List Block) × Child k a here own × AreChildren Child false (l ∷ ks) rest later more
+    × IsFrom first k.offset here × IsBelow rest l.offset here × (cs ≡ here ++ later) × (bs ≡ own ++ more)
 
 -- the sizes of a chunk in elements, and its bytes
 abbrev pub chunk_sizes : ℕ → List ℕ → List ℕ
@@ -83,7 +92,7 @@ pub record IsNode (b : Array) (k rank : ℕ) (level : ℕ) (Child : Under) (at :
   pub spelled : SpellsChunkNode k rank node (bytes_of b at (chunk_node_len k rank))
   pub level_is : node.level ≡ level
   pub below : List Block
-  pub children : AreChildren Child node.keys node.children cs below
+  pub children : AreChildren Child true node.keys node.children cs below
   pub blocks : bs ≡ record { start = at; len = chunk_node_len k rank } ∷ below
 
 -- a chunk index of this level: under level 0 stand the chunks

@@ -92,4 +92,4 @@ pub record HasLinks (b : Array) (ks : Ks) (tree heap : ℕ) (fs : List Found) (b
   pub nodes : List Block
   pub index : IsIndex b ks (bytes_of b head.segment_at head.len) level tree fs nodes
   pub ordered : AreOrdered (map (λ f. f.name) fs)
-  pub blocks : bs ≡ nodes ++ (record { start = heap; len = 32 } ∷ placed head.segment_at head.len)
+  pub blocks : bs ≡ record { start = heap; len = 32 } ∷ placed head.segment_at head.len ++ nodes
