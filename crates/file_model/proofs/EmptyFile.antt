@@ -65,6 +65,7 @@ header : IsHeader (array_of empty_file) 96 prefix parts
 unfolding prefix table parts empty_file zeros u16_at u32_at u64_at
 header = record {
   spelled = record { prefix = record { whole = lit≤ tt; version = refl }; value = refl };
+  unread = [];
   met = (
     lit≤ tt,
     refl,
@@ -72,7 +73,7 @@ header = record {
     (λ kind. lit≤ tt, tt),
     lit≤ tt,
     inr refl,
-    refl,
+    (refl, refl),
   );
 }
 
@@ -146,6 +147,7 @@ empty_holds = record {
     root = refl;
     held = (group, tt);
     kept = record {
+      some = (lit≤ tt, (lit≤ tt, (lit≤ tt, (lit≤ tt, (lit≤ tt, tt)))));
       apart = ((inl (lit≤ tt), (inl (lit≤ tt), (inl (lit≤ tt), (inl (lit≤ tt), tt)))), ((inl (lit≤ tt), (inl (lit≤ tt), (inl (lit≤ tt), tt))), ((inl (lit≤ tt), (inr (lit≤ tt), tt)), ((inr (lit≤ tt), tt), (tt, tt)))));
       inside = ((Super, lit≤ tt, lit≤ tt), ((Super, lit≤ tt, lit≤ tt), ((Super, lit≤ tt, lit≤ tt), ((Super, lit≤ tt, lit≤ tt), ((Super, lit≤ tt, lit≤ tt), tt)))));
     };

@@ -6,14 +6,15 @@ use Rattle.outside.specs.Array.{Array}
 use Rattle.header_codec.specs.Headers.{SpellsPrefix}
 use Rattle.header_codec.specs.declared.types.Prefix.{Prefix}
 use Rattle.outside.specs.Blocks.{Block, Agree}
-use Rattle.file_model.specs.Headers.{Stand, IsRead, Part, AreMet, IsHeader, continued, messages_of, header_blocks}
+use Rattle.file_model.specs.Headers.{Stand, IsRead, Part, AreMet, IsHeader, continued, messages_of, first_block, header_blocks}
 use Rattle.file_model.proofs.FrameBytes.{Same, bytes_same, within_same, agree_both, agree_left, agree_right}
 
 -- the parts' messages, from the bytes of the blocks that wait and of those that the messages name
-pub met_stays : (b c : Array) (waiting : List Block) (count : ℕ) (parts : List Part) → Agree b c waiting → Agree b c (flat_map continued (messages_of parts)) → AreMet b waiting count parts → AreMet c waiting count parts
-met_stays b c waiting count [] wait more h = h
-met_stays b c [] count (p ∷ ps) wait more h = h
-met_stays b c (x ∷ xs) count (p ∷ ps) wait more (some, block_is, stand, whole, few, read, later) =
+pub met_stays : (b c : Array) (waiting : List Block) (count : ℕ) (parts : List Part) (left : List Block) (wanted : ℕ) → Agree b c waiting → Agree b c (flat_map continued (messages_of parts))
+    → AreMet b waiting count parts left wanted → AreMet c waiting count parts left wanted
+met_stays b c waiting count [] left wanted wait more h = h
+met_stays b c [] count (p ∷ ps) left wanted wait more h = h
+met_stays b c (x ∷ xs) count (p ∷ ps) left wanted wait more (some, block_is, stand, whole, few, read, later) =
     let bytes = bytes_same b c x.start x.len wait.0 in
     let both : Agree b c (flat_map continued p.messages ++ flat_map continued (messages_of ps)) =
     subst (Agree b c) (flat_map-append continued p.messages (messages_of ps)) more in
@@ -25,7 +26,7 @@ met_stays b c (x ∷ xs) count (p ∷ ps) wait more (some, block_is, stand, whol
       whole,
       few,
       subst (λ s. IsRead s count p.messages) bytes read,
-      met_stays b c (xs ++ flat_map continued p.messages) (count - length p.messages) ps
+      met_stays b c (xs ++ flat_map continued p.messages) (count - length p.messages) ps left wanted
           (agree_both b c xs (flat_map continued p.messages) wait.1 named) others later,
     )
 
@@ -34,6 +35,7 @@ header_stays b c at prefix parts agree h =
     let same : Same b c at (16 + prefix.size) = agree.0 in
     record {
       spelled = subst (SpellsPrefix prefix) (bytes_same b c at 16 (within_same b c at 16 at (16 + prefix.size) same (omega arith) (omega arith))) h.spelled;
-      met = met_stays b c (record { start = at + 16; len = prefix.size } ∷ []) prefix.messages parts
+      unread = h.unread;
+      met = met_stays b c (first_block at prefix ∷ []) prefix.messages parts h.unread 0
           (within_same b c (at + 16) prefix.size at (16 + prefix.size) same (omega arith) (omega arith), tt) agree.1 h.met;
     }

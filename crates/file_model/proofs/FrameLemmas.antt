@@ -10,9 +10,9 @@ use Rattle.outside.specs.Array.{Array, bytes_of}
 use Rattle.object_model.specs.Tree.{Group, Leaf, Empty, Link}
 use Rattle.object_model.specs.Step.{Plain}
 use Rattle.outside.specs.Blocks.{Block, Bounds, AllInside, AreKept, Agree}
-use Rattle.file_model.specs.Headers.{header_blocks, messages_of}
+use Rattle.file_model.specs.Headers.{header_blocks, messages_of, later_header}
 use Rattle.file_model.specs.Groups.{Ks, Found}
-use Rattle.file_model.specs.Holds.{GroupAt, DataAt, OtherAt, LeafAt, DataLeaf, SoftLeaf, OtherLeaf, Full, FullLinks, IsGroup, IsData, IsUnknown, Unsupported, Later, IsLeafHeld, IsHeld, AreHeld, founds, leaf_blocks, blocks_of, blocks_in, later_header, ks_of, HasDriver, super_bytes_of, HoldsFull, Holds}
+use Rattle.file_model.specs.Holds.{GroupAt, DataAt, OtherAt, LeafAt, DataLeaf, SoftLeaf, OtherLeaf, Full, FullLinks, IsGroup, IsData, IsUnknown, Unsupported, Later, IsLeafHeld, IsHeld, AreHeld, founds, leaf_blocks, blocks_of, blocks_in, ks_of, HasDriver, super_bytes_of, HoldsFull, Holds}
 use Rattle.file_model.specs.Laws.{FrameLaw, Rises, all_blocks}
 use Rattle.file_model.proofs.FrameBytes.{Same, bytes_same, within_same, agree_left, agree_right, agree_itself}
 use Rattle.file_model.proofs.FrameHeaders.{header_stays}
@@ -94,7 +94,7 @@ inside_stays e f r (x ∷ xs) h =
 
 -- blocks that are kept stay kept
 pub kept_stays : (e f : Bounds) (blocks : List Block) → Rises e f → AreKept e blocks → AreKept f blocks
-kept_stays e f blocks r h = record { apart = h.apart; inside = inside_stays e f r blocks h.inside }
+kept_stays e f blocks r h = record { some = h.some; apart = h.apart; inside = inside_stays e f r blocks h.inside }
 
 -- ---- the file
 

@@ -13,7 +13,7 @@ use Rattle.header_codec.specs.declared.types.Prefix.{Prefix}
 use Rattle.header_codec.specs.declared.types.Message.{Message}
 use Rattle.header_codec.specs.declared.types.Layout.{Layout}
 use Rattle.outside.specs.Blocks.{Block}
-use Rattle.file_model.specs.Headers.{Met, Stand, after, Part, IsRead, AreMet, IsHeader, continued}
+use Rattle.file_model.specs.Headers.{Met, Stand, after, Part, IsRead, AreMet, IsHeader, continued, first_block}
 use Rattle.file_model.specs.Objects.{first_of, IsGroupHeader, DataInfo, HasFill, fill_bytes, IsDataHeader}
 
 abbrev pub told : Met → ℕ → Message
@@ -54,18 +54,18 @@ read_same bytes count ms ns a b am bm ar br = stand_same bytes 0 ms ns a b (omeg
     less ms ns a b am bm (inl end) = stand_short bytes 0 ms ns a b end
     less ms ns a b am bm (inr all) = omega arith
 
-parts_same : (b : Array) (waiting : List Block) (count : ℕ) (ps qs : List Part) → AreMet b waiting count ps → AreMet b waiting count qs → ps ≡ qs
-parts_same b waiting count [] [] h k = refl
-parts_same b [] count [] (q ∷ qs) h k = absurd k
-parts_same b (x ∷ more) count [] (q ∷ qs) h k = absurd (omega (arith, k.0))
-parts_same b [] count (p ∷ ps) qs h k = absurd h
-parts_same b (x ∷ more) count (p ∷ ps) [] h k = absurd (omega (arith, h.0))
-parts_same b (x ∷ more) count (p ∷ ps) (q ∷ qs) h k =
+parts_same : (b : Array) (waiting : List Block) (count : ℕ) (ps qs : List Part) (l m : List Block) → AreMet b waiting count ps l 0 → AreMet b waiting count qs m 0 → ps ≡ qs
+parts_same b waiting count [] [] l m h k = refl
+parts_same b [] count [] (q ∷ qs) l m h k = absurd k
+parts_same b (x ∷ more) count [] (q ∷ qs) l m h k = absurd (omega (arith, k.0, h.1))
+parts_same b [] count (p ∷ ps) qs l m h k = absurd h
+parts_same b (x ∷ more) count (p ∷ ps) [] l m h k = absurd (omega (arith, h.0, k.1))
+parts_same b (x ∷ more) count (p ∷ ps) (q ∷ qs) l m h k =
     let ms : p.messages ≡ q.messages = read_same (bytes_of b x.start x.len) count p.messages q.messages h.2 k.2 h.4 k.4 h.5 k.5 in
     let block : p.block ≡ q.block = h.1 ∙ sym k.1 in
-    let rest : AreMet b (more ++ flat_map continued p.messages) (count - length p.messages) qs =
-    subst (λ (l : List Met). AreMet b (more ++ flat_map continued l) (count - length l) qs) (sym ms) k.6 in
-    (λ j. record { block = block j; messages = ms j } ∷ parts_same b (more ++ flat_map continued p.messages) (count - length p.messages) ps qs h.6 rest j)
+    let rest : AreMet b (more ++ flat_map continued p.messages) (count - length p.messages) qs m 0 =
+    subst (λ (xs : List Met). AreMet b (more ++ flat_map continued xs) (count - length xs) qs m 0) (sym ms) k.6 in
+    (λ j. record { block = block j; messages = ms j } ∷ parts_same b (more ++ flat_map continued p.messages) (count - length p.messages) ps qs l m h.6 rest j)
 
 pub prefix_same : (b : Array) (at : ℕ) (p q : Prefix) (ps qs : List Part) → IsHeader b at p ps → IsHeader b at q qs → p ≡ q
 prefix_same b at p q ps qs h k = h.spelled.value ∙ sym k.spelled.value
@@ -73,8 +73,8 @@ prefix_same b at p q ps qs h k = h.spelled.value ∙ sym k.spelled.value
 pub header_same : (b : Array) (at : ℕ) (p q : Prefix) (ps qs : List Part) → IsHeader b at p ps → IsHeader b at q qs → ps ≡ qs
 header_same b at p q ps qs h k =
     let e = prefix_same b at p q ps qs h k in
-    parts_same b (record { start = at + 16; len = p.size } ∷ []) p.messages ps qs h.met
-    (subst (λ (x : Prefix). AreMet b (record { start = at + 16; len = x.size } ∷ []) x.messages qs) (sym e) k.met)
+    parts_same b (first_block at p ∷ []) p.messages ps qs h.unread k.unread h.met
+    (subst (λ (x : Prefix). AreMet b (first_block at x ∷ []) x.messages qs k.unread 0) (sym e) k.met)
 
 -- ---- what a header tells
 

@@ -4,11 +4,11 @@ use Rattle.outside.specs.Array.{Array, bytes_of}
 use Rattle.super_codec.specs.declared.superblock.Superblock.{Superblock}
 use Rattle.header_codec.specs.declared.types.Prefix.{Prefix}
 use Rattle.object_model.specs.Tree.{Group, Leaf, Empty, Link}
-use Rattle.file_model.specs.Headers.{Met, Part, IsHeader, header_blocks, messages_of}
+use Rattle.file_model.specs.Headers.{Met, Part, IsHeader, header_blocks, messages_of, later_header}
 use Rattle.file_model.specs.Objects.{has, DataInfo, IsGroupHeader, IsDataHeader}
 use Rattle.file_model.specs.Groups.{Ks, Found, Header, Text, HasLinks}
 use Rattle.file_model.specs.Chunks.{IsStoredBy, elements_of}
-use Rattle.file_model.specs.Holds.{GroupAt, DataAt, OtherAt, LeafAt, DataLeaf, SoftLeaf, OtherLeaf, FullLinks, founds, leaf_target, IsGroup, IsData, IsUnknown, Unsupported, Later, later_header, IsHeld, AreHeld, IsLeafHeld, ks_of, plain}
+use Rattle.file_model.specs.Holds.{GroupAt, DataAt, OtherAt, LeafAt, DataLeaf, SoftLeaf, OtherLeaf, FullLinks, founds, leaf_target, IsGroup, IsData, IsUnknown, Unsupported, Later, IsHeld, AreHeld, IsLeafHeld, ks_of, plain}
 use Rattle.file_model.specs.Laws.{OneObject, OneFull, OneTree}
 use Rattle.file_model.proofs.UniqueHeaders.{prefix_same, header_same, group_same, data_same}
 use Rattle.file_model.proofs.UniqueGroups.{links_are}

@@ -49,25 +49,35 @@ pub record Part : Type 0 where
 abbrev pub IsRead : List ℕ → ℕ → List Met → Type 0
 IsRead bytes count ms = (length bytes < after 0 ms + 8) ⊎ (length ms ≡ count)
 
--- The blocks that wait are read one after another until so many messages were met: those of the header first, then those
--- of each continuation in the order in which the continuations were met.
-abbrev pub AreMet : Array → List Block → ℕ → List Part → Type 0
-AreMet b waiting count [] = count ≡ 0
-AreMet b [] count (p ∷ ps) = ⊥
-AreMet b (x ∷ more) count (p ∷ ps) =
+-- The blocks that wait are read one after another: those of the header first, then those of each continuation in the
+-- order in which the continuations were met. So many messages are wanted at first; behind these parts, the blocks `left`
+-- wait, and `wanted` messages are still wanted.
+abbrev pub AreMet : Array → List Block → ℕ → List Part → (left : List Block) → (wanted : ℕ) → Type 0
+AreMet b waiting count [] left wanted = (left ≡ waiting) × (wanted ≡ count)
+AreMet b [] count (p ∷ ps) left wanted = ⊥
+AreMet b (x ∷ more) count (p ∷ ps) left wanted =
     (0 < count) × (p.block ≡ x) × Stand (bytes_of b x.start x.len) 0 p.messages × AreWhole p.messages × (length p.messages ≤ count)
     × IsRead (bytes_of b x.start x.len) count p.messages
-    × AreMet b (more ++ flat_map continued p.messages) (count - length p.messages) ps
+    × AreMet b (more ++ flat_map continued p.messages) (count - length p.messages) ps left wanted
 
 -- the messages in the order met
 abbrev pub messages_of : List Part → List Met
 messages_of = flat_map (λ p. p.messages)
 
+-- the messages that follow the prefix
+abbrev pub first_block : ℕ → Prefix → Block
+first_block at prefix = record { start = at + 16; len = prefix.size }
+
 -- The header of an object at an address: its prefix, and its messages as many as the prefix counts.
 pub record IsHeader (b : Array) (at : ℕ) (prefix : Prefix) (parts : List Part) : Type 0 where
   pub spelled : SpellsPrefix prefix (bytes_of b at 16)
-  pub met : AreMet b (record { start = at + 16; len = prefix.size } ∷ []) prefix.messages parts
+  pub unread : List Block
+  pub met : AreMet b (first_block at prefix ∷ []) prefix.messages parts unread 0
 
 -- its blocks: the header with its first messages, and those that its continuations name
 abbrev pub header_blocks : ℕ → Prefix → List Part → List Block
 header_blocks at prefix parts = record { start = at; len = 16 + prefix.size } ∷ flat_map continued (messages_of parts)
+
+-- `OHDR`: a header of version 2, which isn't read
+abbrev pub later_header : List ℕ
+later_header = 0x4F ∷ 0x48 ∷ 0x44 ∷ 0x52 ∷ []

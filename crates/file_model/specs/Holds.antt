@@ -11,7 +11,7 @@ use Rattle.object_model.specs.Tree.{Tree, Group, Leaf, Links, Empty, Link, map_t
 use Rattle.object_model.specs.Data.{Data}
 use Rattle.object_model.specs.Step.{Plain, Object, Dataset, Soft, Other}
 use Rattle.outside.specs.Blocks.{Block, Bounds, AreKept, undefined}
-use Rattle.file_model.specs.Headers.{Part, IsHeader, header_blocks, messages_of}
+use Rattle.file_model.specs.Headers.{Part, IsHeader, header_blocks, messages_of, later_header}
 use Rattle.file_model.specs.Objects.{DataInfo, IsGroupHeader, IsDataHeader, IsOtherHeader, max_of}
 use Rattle.file_model.specs.Groups.{Ks, Found, Target, Header, Text, HasLinks}
 use Rattle.file_model.specs.Chunks.{Chunk, IsStoredBy, elements_of, chunk_of}
@@ -106,10 +106,6 @@ pub record IsOther (b : Array) (o : OtherAt) : Type 0 where
   pub header : IsHeader b o.header_at prefix parts
   pub told : IsOtherHeader (messages_of parts)
   pub blocks : o.own ≡ header_blocks o.header_at prefix parts
-
--- `OHDR`: a header of version 2, which isn't read
-abbrev pub later_header : List ℕ
-later_header = 0x4F ∷ 0x48 ∷ 0x44 ∷ 0x52 ∷ []
 
 pub record IsLater (b : Array) (o : OtherAt) : Type 0 where
   pub signature : bytes_of b o.header_at 4 ≡ later_header

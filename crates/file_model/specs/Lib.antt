@@ -6,4 +6,8 @@ pub mod Holds
 pub mod WellKept
 pub mod Limits
 pub mod Laws
+pub mod Refusals
+pub mod RefusedGroups
+pub mod RefusedChunks
+pub mod RefusedTree
 pub mod Bites

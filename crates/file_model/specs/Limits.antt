@@ -7,11 +7,27 @@ use Rattle.header_codec.specs.declared.types.Prefix.{Prefix}
 use Rattle.node_codec.specs.Heap.{SpellsHeap}
 use Rattle.node_codec.specs.declared.heap.HeapHead.{HeapHead}
 use Rattle.object_model.specs.Tree.{Group, Leaf, Empty, Link}
-use Rattle.outside.specs.Blocks.{Block}
+use Rattle.outside.specs.Blocks.{Block, most_blocks}
 use Rattle.file_model.specs.Headers.{Part, IsHeader, header_blocks}
 use Rattle.file_model.specs.Holds.{LeafAt, DataLeaf, SoftLeaf, OtherLeaf, Full, FullLinks}
 
--- how many links lead down to the deepest object: the root has depth 0
+-- the root has depth 0
+abbrev pub most_depth : ℕ
+most_depth = 32
+
+-- groups, datasets and others
+abbrev pub most_objects : ℕ
+most_objects = 65536
+
+-- a header with its continuations, in bytes
+abbrev pub most_header : ℕ
+most_header = 1048576
+
+-- the segment of a local heap, in bytes
+abbrev pub most_segment : ℕ
+most_segment = 16777216
+
+-- how many links lead down to the deepest object
 abbrev mutual
   pub depth_of : Full → ℕ
   depth_of (Group g ls) = depth_in ls
@@ -42,10 +58,10 @@ abbrev pub header_bytes : ℕ → Prefix → List Part → ℕ
 header_bytes at prefix parts = sum_by (λ x. x.len) (header_blocks at prefix parts)
 
 abbrev pub IsShort : Array → ℕ → Type 0
-IsShort b at = (prefix : Prefix) (parts : List Part) → IsHeader b at prefix parts → header_bytes at prefix parts ≤ 1048576
+IsShort b at = (prefix : Prefix) (parts : List Part) → IsHeader b at prefix parts → header_bytes at prefix parts ≤ most_header
 
 abbrev pub IsSmallHeap : Array → ℕ → Type 0
-IsSmallHeap b at = (head : HeapHead) → SpellsHeap head (bytes_of b at 32) → head.len ≤ 16777216
+IsSmallHeap b at = (head : HeapHead) → SpellsHeap head (bytes_of b at 32) → head.len ≤ most_segment
 
 abbrev pub LeafFits : Array → LeafAt → Type 0
 LeafFits b (DataLeaf d) = IsShort b d.header_at
@@ -64,7 +80,7 @@ abbrev mutual
 
 -- A tree that is opened; `blocks` are all of the file.
 pub record IsWithinLimits (b : Array) (blocks : List Block) (t : Full) : Type 0 where
-  pub depth : depth_of t ≤ 32
-  pub objects : objects_of t ≤ 65536
-  pub block_count : length blocks ≤ 1048576
+  pub depth : depth_of t ≤ most_depth
+  pub objects : objects_of t ≤ most_objects
+  pub block_count : length blocks ≤ most_blocks
   pub parts : Fits b t

@@ -38,8 +38,14 @@ abbrev pub AllInside : Bounds → List Block → Type 0
 AllInside e [] = Unit {0}
 AllInside e (x ∷ xs) = IsInside e x × AllInside e xs
 
--- each block lies below an end, and no address lies in two
+-- each has at least one byte
+abbrev pub AllSome : List Block → Type 0
+AllSome [] = Unit {0}
+AllSome (x ∷ xs) = (0 < x.len) × AllSome xs
+
+-- each block has bytes and lies below an end, and no address lies in two
 pub record AreKept (e : Bounds) (blocks : List Block) : Type 0 where
+  pub some : AllSome blocks
   pub apart : AllApart blocks
   pub inside : AllInside e blocks
 
