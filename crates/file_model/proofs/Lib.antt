@@ -10,4 +10,6 @@ pub mod UniqueChunks
 pub mod UniqueTree
 pub mod EmptyFile
 pub mod EditLemmas
+pub mod NoFault
+pub mod NoHeader
 pub mod BitesLemmas
