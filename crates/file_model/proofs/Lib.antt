@@ -12,4 +12,5 @@ pub mod EmptyFile
 pub mod EditLemmas
 pub mod NoFault
 pub mod NoHeader
+pub mod NoGroups
 pub mod BitesLemmas
