@@ -13,4 +13,6 @@ pub mod EditLemmas
 pub mod NoFault
 pub mod NoHeader
 pub mod NoGroups
+pub mod NoChunks
+pub mod NoRefusal
 pub mod BitesLemmas

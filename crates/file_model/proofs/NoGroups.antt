@@ -68,12 +68,16 @@ leaf_not b e ks segment heap met later at fs bs r h ordered room refused = go re
   where
     own : Block
     own = record { start = at; len = snod_len ks.leaf }
+
     room' : Room e met (own ∷ later)
     room' = subst (λ (l : List Block). Room e met (l ++ later)) h.blocks room
+
     same : (entries : List SnodEntry) → SpellsSnod ks.leaf entries (bytes_of b at (snod_len ks.leaf)) → h.entries ≡ entries
     same entries k = h.spelled.value ∙ sym k.value
+
     links : (entries : List SnodEntry) → SpellsSnod ks.leaf entries (bytes_of b at (snod_len ks.leaf)) → AreLinks segment entries fs
     links entries k = subst (λ (l : List SnodEntry). AreLinks segment l fs) (same entries k) h.links
+
     go : IsLeafRefused b e ks segment heap met at r → ⊥
     go (LeafBlock k) = not_refused e met own kind.Snod r (free_of e met own later room') k
     go (NoLeaf none line) = none h.entries h.spelled
@@ -118,16 +122,22 @@ children_not e segment heap node Child Refused one not (k ∷ l ∷ ks) (c ∷ c
   where
     all : AreOrdered (names_of ((done ++ here) ++ after))
     all = subst (λ (l : List Found). AreOrdered (names_of l)) (ap (λ (l : List Found). done ++ l) fs_is ∙ sym (append_assoc done here after)) ordered
+
     split : AreOrdered (names_of (done ++ here) ++ names_of after)
     split = subst AreOrdered (names_both (done ++ here) after) all
+
     so_far : AreOrdered (names_of (done ++ here))
     so_far = ordered_front (names_of (done ++ here)) (names_of after) split
+
     own_names : AreOrdered (names_of here)
     own_names = ordered_back (names_of done) (names_of here) (subst AreOrdered (names_both done here) so_far)
+
     blocks : bs ++ later ≡ own ++ (more ++ later)
     blocks = ap (λ (l : List Block). l ++ later) bs_is ∙ append_assoc own more later
+
     room' : Room e met (own ++ (more ++ later))
     room' = subst (Room e met) blocks room
+
     go : AreChildrenRefused segment heap node Child Refused (k ∷ l ∷ ks) (c ∷ cs) done met r → (AreChildrenRefused segment heap node Child Refused (l ∷ ks) cs (done ++ here) (met ++ own) r → ⊥) → ⊥
     go (inl x) next = not met (more ++ later) c here own r child own_names room' x
     go (inr (here', own', child', inl x)) next =
@@ -145,8 +155,10 @@ node_not b e ks segment heap level Child Refused one not met later at fs bs r h 
   where
     own : Block
     own = record { start = at; len = group_node_len ks.internal }
+
     room' : Room e met (own ∷ (h.below ++ later))
     room' = subst (λ (l : List Block). Room e met (l ++ later)) h.blocks room
+
     go : IsNodeRefused b e ks segment heap level Child Refused met at r → ⊥
     go (NodeBlock k) = not_refused e met own kind.Tree r (free_of e met own (h.below ++ later) room') k
     go (NoNode none line) = none h.node h.spelled h.level_is
@@ -168,15 +180,20 @@ table_not b e ks met later tree heap fs bs r h room small refused = go refused
   where
     segment : List Block
     segment = placed h.head.segment_at h.head.len
+
     room' : Room e met (heap_block heap ∷ (segment ++ (h.nodes ++ later)))
     room' =
         subst (Room e met) (ap (λ (l : List Block). l ++ later) h.blocks ∙ ap (λ (l : List Block). heap_block heap ∷ l) (append_assoc segment h.nodes later)) room
+
     room_segment : Room e (met ++ heap_block heap ∷ []) (segment ++ (h.nodes ++ later))
     room_segment = room_after e met (heap_block heap ∷ []) (segment ++ (h.nodes ++ later)) room'
+
     room_nodes : Room e (met ++ heap_block heap ∷ segment) (h.nodes ++ later)
     room_nodes = room_after e met (heap_block heap ∷ segment) (h.nodes ++ later) room'
+
     same : (k : HeapHead) → SpellsHeap k (bytes_of b heap 32) → k ≡ h.head
     same k s = s.value ∙ sym h.spelled.value
+
     go : IsTableRefused b e ks met tree heap r → ⊥
     go (HeapBlock k) = not_refused e met (heap_block heap) kind.Heap r (free_of e met (heap_block heap) (segment ++ (h.nodes ++ later)) room') k
     go (NoHeap none line) = none h.head h.spelled

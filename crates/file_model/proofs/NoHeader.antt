@@ -159,6 +159,7 @@ message_not b e met at prefix parts later r h (BadMessage before block ms readin
   where
     bytes : List ℕ
     bytes = bytes_of b block.start block.len
+
     next : (tail qs : List Met) → qs ≡ ms ++ tail → Stand bytes 0 qs → AreWhole qs → IsRead bytes reading.wanted qs → ⊥
     next [] qs is stand whole (inl end) =
         let same : qs ≡ ms = is ∙ append-nil ms in
@@ -199,12 +200,15 @@ header_not b e met at prefix parts later r header room short refused = go refuse
   where
     free : IsFree e met (record { start = at; len = 16 + prefix.size })
     free = free_of e met (record { start = at; len = 16 + prefix.size }) (flat_map continued (messages_of parts) ++ later) room
+
     same : (p : Prefix) → SpellsPrefix p (bytes_of b at 16) → p ≡ prefix
     same p h = h.value ∙ sym header.spelled.value
+
     first : 16 + prefix.size ≤ header_bytes at prefix parts
     first =
         let own : met_bytes (record { start = at; len = 16 + prefix.size } ∷ []) ≡ 0 + (16 + prefix.size) = refl in
         omega (arith, own, sum_front (record { start = at; len = 16 + prefix.size } ∷ []) (flat_map continued (messages_of parts)))
+
     go : IsHeaderRefused b e met at r → ⊥
     go (LaterHeader is h) = not_refused e met (record { start = at; len = 4 }) kind.Header r (free_less e met at (16 + prefix.size) 4 (omega arith) (omega arith) free) h
     go (PrefixBlock not h) = not_refused e met (record { start = at; len = 16 }) kind.Header r (free_less e met at (16 + prefix.size) 16 (omega arith) (omega arith) free) h
