@@ -1,0 +1,3 @@
+pub mod NextKeys
+pub mod Apart
+pub mod Listed
