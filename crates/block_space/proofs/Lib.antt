@@ -1,3 +1,4 @@
 pub mod NextKeys
 pub mod Apart
 pub mod Listed
+pub mod SixClasses
