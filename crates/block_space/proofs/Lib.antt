@@ -2,3 +2,4 @@ pub mod NextKeys
 pub mod Apart
 pub mod Listed
 pub mod SixClasses
+pub mod Joined

@@ -1,7 +1,7 @@
 -- What a catalogue of the blocks of a file holds, and why it takes no further block.
 -- Cited by `Blocks`, and by whatever reads a file through it.
-use Rattle.std.specs.Prelude.{◌≡◌, ℕ, ◌≤◌, List, length, Option, Some, None}
-use Rattle.outside.specs.Blocks.{Block, BlockFault, AllInside, most_blocks}
+use Rattle.std.specs.Prelude.{ℕ, ◌<◌, ◌≤◌, List, length, Option, Some, None}
+use Rattle.outside.specs.Blocks.{Block, BlockFault, BeginsOne, IsApart, IsInside, AllInside, most_blocks}
 use Rattle.outside.specs.Space.{SpaceView, bounds_of}
 use Rattle.block_space.specs.declared.blocks.AdoptStop.{AdoptStop}
 use Rattle.block_space.specs.declared.blocks.AdoptStop.TheVariants as stop
@@ -19,6 +19,13 @@ pub record Keeps {V : Type 0} (view : V → SpaceView) (blocks : Blocks V) (met 
   pub lists : Lists blocks.catalogue met
   pub few : length met ≤ most_blocks
   pub inside : (own : Option (List ℕ)) → AllInside (bounds_of (view blocks.space) own) met
+
+-- a block may be taken into the catalogue
+pub record MayJoin {V : Type 0} (view : V → SpaceView) (blocks : Blocks V) (met : List Block) (x : Block) : Type 0 where
+  pub few : length met < most_blocks
+  pub begins : ¬ BeginsOne met x.start
+  pub apart : IsApart x met
+  pub inside : (own : Option (List ℕ)) → IsInside (bounds_of (view blocks.space) own) x
 
 -- the fault of a file for which a block is refused; want of memory is none
 abbrev pub fault_of : AdoptStop → Option BlockFault
