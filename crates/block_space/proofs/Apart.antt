@@ -1,5 +1,5 @@
 -- Lists of blocks that are apart, and that lie inside.
-use Rattle.std.proofs.Common.{◌≡◌, ℕ, zero, suc, ◌+◌, ◌<◌, ◌≤◌, ◌⊎◌, inl, inr, ◌++◌, ◌∷◌, [], List, length, sym, ◌∙◌, subst, arith, refl}
+use Rattle.std.proofs.Common.{◌≡◌, zero, suc, ◌⊎◌, inl, inr, ◌++◌, ◌∷◌, [], List, sym, ◌∙◌, subst, arith, refl}
 use Rattle.std.specs.List.{Contains}
 use Rattle.outside.specs.Blocks.{Block, Bounds, AreApart, IsApart, AllApart, IsInside, AllInside}
 

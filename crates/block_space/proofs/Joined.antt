@@ -1,5 +1,5 @@
 -- A catalogue before and after one more block is in it.
-use Rattle.std.proofs.Common.{◌≡◌, ◌↔◌, ℕ, ◌+◌, ◌<◌, ◌≤◌, ◌⊎◌, inl, inr, List, [], ◌∷◌, ◌++◌, length, Bool, true, false, sym, ◌∙◌, ap, subst, refl, arith, length-append, if◌then◌else◌}
+use Rattle.std.proofs.Common.{◌≡◌, ℕ, ◌+◌, ◌<◌, inl, inr, List, [], ◌∷◌, ◌++◌, true, false, sym, ◌∙◌, ap, subst, refl, arith, length-append, if◌then◌else◌}
 use Rattle.std.specs.declared.option.Option.{Option}
 use Rattle.std.specs.declared.option.Option.TheVariants.{Some, None}
 use Rattle.std.specs.Option.{IsSome, is_some}
@@ -43,17 +43,17 @@ module _ (m : BTreeMap ℕ ℕ) (met : List Block) (lists : Lists m met) where
 
   pub begins_none : (start : ℕ) → is_some (get nat_cmp m start) ≡ false → BeginsOne met start → ⊥
   begins_none start none (x, h, at) =
-    let found : get nat_cmp m x.start ≡ Some x.len = (lists.entries x.start x.len).1 h in
-    let has : is_some (get nat_cmp m start) ≡ true = subst (λ (q : ℕ). is_some (get nat_cmp m q) ≡ true) at (ap is_some found) in
-    cc
+      let found : get nat_cmp m x.start ≡ Some x.len = (lists.entries x.start x.len).1 h in
+      let has : is_some (get nat_cmp m start) ≡ true = subst (λ (q : ℕ). is_some (get nat_cmp m q) ≡ true) at (ap is_some found) in
+      cc
 
   module _ (n : BTreeMap ℕ ℕ) (start len : ℕ) (update : Updates nat_cmp m n start (Some len)) (begins : BeginsOne met start → ⊥) where
     entry_of : (s l : ℕ) → get nat_cmp n s ≡ Some l → Contains (met ++ record { start = start; len = len } ∷ []) (record { start = s; len = l })
     entry_of s l e = elim (cases_eq start s) [
       | inl is ↦
-        let here : get nat_cmp n s ≡ Some len = subst (λ (q : ℕ). get nat_cmp n q ≡ Some len) is update.1 in
-        let same : len ≡ l = cc in
-        subst (λ (b : Block). Contains (met ++ record { start = start; len = len } ∷ []) b) (λ i. record { start = is i; len = same i }) (Contains-push met (record { start = start; len = len }))
+          let here : get nat_cmp n s ≡ Some len = subst (λ (q : ℕ). get nat_cmp n q ≡ Some len) is update.1 in
+          let same : len ≡ l = cc in
+          subst (λ (b : Block). Contains (met ++ record { start = start; len = len } ∷ []) b) (λ i. record { start = is i; len = same i }) (Contains-push met (record { start = start; len = len }))
       | inr differ ↦ Contains-append_left met (record { start = start; len = len } ∷ []) (record { start = s; len = l }) ((lists.entries s l).0 (sym (update.2 s (other_key start s differ)) ∙ e))
     ]
 
@@ -70,11 +70,11 @@ module _ (m : BTreeMap ℕ ℕ) (met : List Block) (lists : Lists m met) where
         let none : is_some old ≡ false = ap is_some is ∙ no_value (get nat_cmp m start) (λ has. begins (begins_one start has)) in
         let grown : btree_map_len n ≡ btree_map_len m + 1 = rw none at count in
         record {
-      entries = λ s l. (entry_of s l, value_of s l);
-      count = omega (arith, grown, lists.count, length-append met (record { start = start; len = len } ∷ []));
-      filled = λ y h. elim (Contains-push_cases met (record { start = start; len = len }) y h) [
-        | inl before ↦ lists.filled y before
-        | inr e ↦ subst (λ (b : Block). 0 < b.len) e filled
-      ];
-      apart = all_apart_push met (record { start = start; len = len }) lists.apart apart;
-    }
+          entries = λ s l. (entry_of s l, value_of s l);
+          count = omega (arith, grown, lists.count, length-append met (record { start = start; len = len } ∷ []));
+          filled = λ y h. elim (Contains-push_cases met (record { start = start; len = len }) y h) [
+            | inl before ↦ lists.filled y before
+            | inr e ↦ subst (λ (b : Block). 0 < b.len) e filled
+          ];
+          apart = all_apart_push met (record { start = start; len = len }) lists.apart apart;
+        }

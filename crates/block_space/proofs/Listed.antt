@@ -1,12 +1,11 @@
 -- What the blocks next to an address say of all blocks of a catalogue.
-use Rattle.std.proofs.Common.{◌≡◌, ◌↔◌, ℕ, ◌+◌, ◌-◌, ◌<◌, ◌≤◌, ◌⊎◌, inl, inr, List, sym, ◌∙◌, ap, arith, max}
-use Rattle.std.specs.declared.option.Option.{Option}
+use Rattle.std.proofs.Common.{◌≡◌, ◌↔◌, ℕ, ◌+◌, ◌-◌, ◌<◌, ◌≤◌, ◌⊎◌, inl, inr, List, sym, ◌∙◌, ap, arith}
 use Rattle.std.specs.declared.option.Option.TheVariants.{Some, None}
 use Rattle.std.specs.Option.{IsSome, is_some}
 use Rattle.std.specs.List.{Contains}
 use Rattle.std.specs.Ordering.{nat_cmp}
 use Rattle.std.specs.BTreeMap.{BTreeMap, get}
-use Rattle.outside.specs.Blocks.{Block, AreApart, IsApart, Share, IsOverlap}
+use Rattle.outside.specs.Blocks.{Block, IsApart, IsOverlap}
 use Rattle.std.proofs.lemmas.Bool.{cases_lt}
 use Rattle.block_space.specs.Catalogue.{Lists, IsLastBelow, IsFirstFrom, RunsOver}
 use Rattle.block_space.proofs.Apart.{same_or_apart, apart_from_each}
@@ -27,28 +26,27 @@ module _ (m : BTreeMap ℕ ℕ) (met : List Block) (lists : Lists m met) where
   -- beside the last block below an address, all others below it end before that one
   earlier : (start len at : ℕ) → IsLastBelow m at (Some (start, len)) → (x : Block) → Contains met x → x.start < at → (x ≡ record { start = start; len = len }) ⊎ (x.start + x.len ≤ start)
   earlier start len at last x h l =
-    let y : Block = record { start = start; len = len } in
-    let has : Contains met y = held start len last.1 in
-    let le : x.start ≤ start = last.2 x.start l (has_key x h) in
-    let filled : 0 < len = lists.filled y has in
-    elim (same_or_apart met lists.apart x y h has) [
-      | inl e ↦ inl e
-      | inr apart ↦ elim apart [
-        | inl before ↦ inr before
-        | inr behind ↦ absurd (omega arith)
+      let y : Block = record { start = start; len = len } in
+      let has : Contains met y = held start len last.1 in
+      let le : x.start ≤ start = last.2 x.start l (has_key x h) in
+      let filled : 0 < len = lists.filled y has in
+      elim (same_or_apart met lists.apart x y h has) [
+        | inl e ↦ inl e
+        | inr apart ↦ elim apart [
+          | inl before ↦ inr before
+          | inr behind ↦ absurd (omega arith)
+        ]
       ]
-    ]
 
   pub over_some : (start len at : ℕ) → IsLastBelow m at (Some (start, len)) → (at - start < len) ↔ RunsOver met at
   over_some start len at last =
-    let l : start < at = last.0 in
-    (
-      λ h. (record { start = start; len = len }, held start len last.1, l, omega arith),
-      λ r. elim (earlier start len at last r.0 r.1 r.2) [
-        | inl e ↦ omega (arith, ap (λ (x : Block). x.start) e, ap (λ (x : Block). x.len) e, r.3)
-        | inr before ↦ absurd (omega (arith, r.3, l))
-      ]
-    )
+      let l : start < at = last.0 in (
+        λ h. (record { start = start; len = len }, held start len last.1, l, omega arith),
+        λ r. elim (earlier start len at last r.0 r.1 r.2) [
+          | inl e ↦ omega (arith, ap (λ (x : Block). x.start) e, ap (λ (x : Block). x.len) e, r.3)
+          | inr before ↦ absurd (omega (arith, r.3, l))
+        ],
+      )
 
   pub over_none : (at : ℕ) → IsLastBelow m at None → RunsOver met at → ⊥
   over_none at none r = absent r.0 r.1 (none r.0.start r.2)
@@ -68,18 +66,18 @@ module _ (m : BTreeMap ℕ ℕ) (met : List Block) (lists : Lists m met) where
   pub overlap_behind : (start len behind size : ℕ) → (RunsOver met start → ⊥) → IsFirstFrom m start (Some (behind, size)) → behind - start < len
       → IsOverlap met (record { start = start; len = len }) behind
   overlap_behind start len behind size none first near =
-    let from : start ≤ behind = first.0 in
-    let other : Block = record { start = behind; len = size } in
-    let has : Contains met other = held behind size first.1 in
-    record {
-      other = other;
-      one = has;
-      share = record { greater = omega arith; in_first = omega arith; in_second = omega (arith, lists.filled other has) };
-      least = λ y n h s. elim (cases_lt y.start start) [
-        | inl l ↦ let ends : y.start + y.len ≤ start = ends_before start none y h l in absurd (omega (arith, s.greater, s.in_second))
-        | inr l ↦ let le : behind ≤ y.start = first.2 y.start l (has_key y h) in omega (arith, s.greater)
-      ];
-    }
+      let from : start ≤ behind = first.0 in
+      let other : Block = record { start = behind; len = size } in
+      let has : Contains met other = held behind size first.1 in
+      record {
+        other = other;
+        one = has;
+        share = record { greater = omega arith; in_first = omega arith; in_second = omega (arith, lists.filled other has) };
+        least = λ y n h s. elim (cases_lt y.start start) [
+          | inl l ↦ let ends : y.start + y.len ≤ start = ends_before start none y h l in absurd (omega (arith, s.greater, s.in_second))
+          | inr l ↦ let le : behind ≤ y.start = first.2 y.start l (has_key y h) in omega (arith, s.greater)
+        ];
+      }
 
   pub apart_behind : (start len behind size : ℕ) → (RunsOver met start → ⊥) → IsFirstFrom m start (Some (behind, size)) → len ≤ behind - start → 0 < len
       → IsApart (record { start = start; len = len }) met

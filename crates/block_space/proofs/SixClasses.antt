@@ -1,11 +1,11 @@
 -- The six classes of memory, and whether a block lies inside one of their regions.
-use Rattle.std.proofs.Common.{◌≡◌, ◌↔◌, ℕ, ◌+◌, ◌<◌, ◌≤◌, List, [], ◌∷◌, length, Bool, true, false, refl, arith}
+use Rattle.std.proofs.Common.{◌↔◌, ℕ, ◌<◌, List, [], ◌∷◌, length, Bool, true, false, refl, arith}
 use Rattle.std.specs.declared.option.Option.{Option}
 use Rattle.std.specs.Bool.{IsTrue, MatchBool}
 use Rattle.std.specs.List.{AllWithin, HoldsAt}
 use Rattle.h5_base.specs.declared.extent.MemClass.{MemClass}
 use Rattle.h5_base.specs.declared.extent.MemClass.TheVariants.{Super, Tree, Raw, GlobalHeap, LocalHeap, Header}
-use Rattle.outside.specs.Blocks.{Block, IsInside}
+use Rattle.outside.specs.Blocks.{IsInside}
 use Rattle.outside.specs.Space.{SpaceView, LiesIn, bounds_of}
 
 abbrev pub classes : List MemClass

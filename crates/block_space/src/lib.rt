@@ -6,3 +6,8 @@ mod neighbours;
 mod regions;
 
 pub use blocks::{AdoptStop, Blocks};
+
+#[cfg(test)]
+mod memory;
+#[cfg(test)]
+mod tests;

@@ -1,4 +1,4 @@
-use Rattle.std.proofs.Common.{◌≡◌, ◌<◌, ◌≤◌, List, arith, refl}
+use Rattle.std.proofs.Common.{List, arith, refl}
 use Rattle.outside.specs.Blocks.{Block}
 use Rattle.block_space.specs.Catalogue.{Lists, RunsOver}
 use Rattle.block_space.proofs.Listed.{overlap_start, overlap_behind, apart_behind, apart_at_end}

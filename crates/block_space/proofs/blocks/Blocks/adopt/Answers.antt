@@ -1,5 +1,5 @@
-use Rattle.std.proofs.Common.{◌≡◌, ◌<◌, ◌++◌, ℕ, [], ◌∷◌, List, length, length-append, arith}
-use Rattle.outside.specs.Blocks.{Block, most_blocks}
+use Rattle.std.proofs.Common.{[], ◌∷◌, length-append, arith}
+use Rattle.outside.specs.Blocks.{Block}
 use Rattle.outside.specs.Space.{bounds_of}
 use Rattle.block_space.proofs.Apart.{all_inside_push}
 use Rattle.block_space.proofs.Joined.{lists_push, lists_same}

@@ -1,7 +1,4 @@
-use Rattle.std.proofs.Common.{◌≡◌, ◌∙◌, ◌<◌, ◌++◌, ℕ, [], ◌∷◌, List, length, false, sym, arith, refl}
-use Rattle.std.specs.declared.option.Option.{Option}
-use Rattle.outside.specs.Blocks.{Block, BeginsOne, most_blocks}
-use Rattle.block_space.specs.Catalogue.{Lists}
+use Rattle.std.proofs.Common.{◌∙◌, sym, arith, refl}
 use Rattle.block_space.proofs.Joined.{begins_one, begins_none}
 use Rattle.block_space.proofs.blocks.Blocks.judge.Goals as goal
 
@@ -22,10 +19,9 @@ returns-then-lies_inside-clause-free g c = λ met keeps. record {
 }
 
 pub returns-else-lies_inside-clause-why : goal.returns-else-lies_inside-clause-why
-returns-else-lies_inside-clause-why g c = λ met own keeps.
-    (
-      omega (arith, keeps.lists.count),
-      begins_none c.args.self.now.catalogue met keeps.lists c.args.start (sym c.contains_key.ensures ∙ c.if-contains_key.false),
-      c.in_default.ensures met keeps.lists,
-      λ inside. let e = (c.if-lies_inside.ensures own).1 inside in cc
-    )
+returns-else-lies_inside-clause-why g c = λ met own keeps. (
+  omega (arith, keeps.lists.count),
+  begins_none c.args.self.now.catalogue met keeps.lists c.args.start (sym c.contains_key.ensures ∙ c.if-contains_key.false),
+  c.in_default.ensures met keeps.lists,
+  λ inside. let e = (c.if-lies_inside.ensures own).1 inside in cc,
+)
