@@ -30,6 +30,7 @@ pub enum AdoptStop {
     /// The catalogue has as many blocks as a file may have.
     #[error("too many blocks")]
     TooMany,
+    /// There is no memory for one more entry of the catalogue.
     #[error("out of memory")]
     NoMemory,
 }
@@ -60,6 +61,7 @@ impl<V: Space> Blocks<V> {
         ensures why { IfErr result (λ stop. (met : List Block) (own : Option (List ℕ)) → Keeps V.view self.now met
             → IfSome (fault_of stop) (IsFault (bounds_of (V.view (space_of self.now)) own) met (record { start = start; len = len }))) }
         ensures at { (at : ℕ) → IsErrOf result (AdoptStop.Outside at) → at ≡ start }
+        ensures memory { ¬ IsErrOf result AdoptStop.NoMemory }
     {
         if self.catalogue.len() >= MOST_BLOCKS {
             return Err(AdoptStop::TooMany);
@@ -77,7 +79,8 @@ impl<V: Space> Blocks<V> {
         }
     }
 
-    /// Takes a block of at least one byte into the catalogue. After an error the catalogue is as it was.
+    /// Takes a block of at least one byte into the catalogue. After an error the catalogue is as it was. The error is
+    /// the first of `TooMany`, `LinkedTwice`, `Overlap`, `Outside` and `NoMemory` that applies.
     pub fn adopt(&mut self, start: u64, len: u64) -> Result<(), AdoptStop>
         requires { 0 < len }
         ensures ok { OnOk result ((met : List Block) → Keeps V.view self.old met → Keeps V.view self.new (met ++ record { start = start; len = len } ∷ [])) }
@@ -85,6 +88,7 @@ impl<V: Space> Blocks<V> {
         ensures why { IfErr result (λ stop. (met : List Block) (own : Option (List ℕ)) → Keeps V.view self.old met
             → IfSome (fault_of stop) (IsFault (bounds_of (V.view (space_of self.old)) own) met (record { start = start; len = len }))) }
         ensures at { (at : ℕ) → IsErrOf result (AdoptStop.Outside at) → at ≡ start }
+        ensures memory { IsErrOf result AdoptStop.NoMemory → (met : List Block) → Keeps V.view self.old met → MayJoin V.view self.old met (record { start = start; len = len }) }
         ensures space { space_of self.new ≡ space_of self.old }
     {
         self.judge(start, len)?;
