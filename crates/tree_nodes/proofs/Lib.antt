@@ -1,0 +1,4 @@
+pub mod PlaceLemmas
+pub mod SlotLemmas
+pub mod EditLemmas
+pub mod ShownLemmas
