@@ -5,6 +5,7 @@ mod entry;
 pub mod laws;
 mod node;
 mod places;
+mod slots;
 mod tree;
 
 pub use node::{ChildLink, Node, NodeId};

@@ -1,4 +1,7 @@
-use dtype::{ElemType, Shape};
+ghost use Rattle.std.specs.Prelude.{◌≡◌};
+ghost use Rattle.tree_nodes.specs.Nodes.{is_object, with_layout, with_dims};
+
+use dtype::{Dims, ElemType, Shape};
 use h5_base::{Bytes, LinkName};
 use header_codec::{Fill, Layout};
 
@@ -37,4 +40,34 @@ pub struct NodeId {
 pub struct ChildLink {
     pub name: LinkName,
     pub node: NodeId,
+}
+
+impl Node {
+    /// Whether it is an object: a soft link is none.
+    pub(crate) fn is_object(&self) -> bool
+        ensures { result ≡ is_object self.now }
+    {
+        match self {
+            Node::Group { .. } | Node::Dataset { .. } | Node::Other { .. } => true,
+            Node::Soft { .. } => false,
+        }
+    }
+
+    /// Another layout for a dataset.
+    pub(crate) fn set_layout(&mut self, new: Layout)
+        ensures { self.new ≡ with_layout new self.old }
+    {
+        if let Node::Dataset { layout, .. } = self {
+            *layout = new;
+        }
+    }
+
+    /// Other sizes for a dataset.
+    pub(crate) fn set_dims(&mut self, dims: Dims)
+        ensures { self.new ≡ with_dims dims self.old }
+    {
+        if let Node::Dataset { shape, .. } = self {
+            shape.dims = dims;
+        }
+    }
 }
