@@ -108,10 +108,9 @@ fn read_sized_fill(alloc: Global, bytes: &[u8], size: u32) -> Result<Fill, PartS
     ensures found { IfOk result (λ f. SpellsFill f bytes.now × IsOfSize size f) }
     ensures other { result ≡ Err PartStop.Other → (f : Fill) → SpellsFill f bytes.now → IsOfSize size f → ⊥ }
 {
-    let fill = read_fill(alloc, bytes)?;
-    if fill.is_of_size(size) {
-        Ok(fill)
-    } else {
-        Err(PartStop::Other)
+    match read_fill(alloc, bytes) {
+        Ok(fill) if fill.is_of_size(size) => Ok(fill),
+        Ok(_) => Err(PartStop::Other),
+        Err(stop) => Err(stop),
     }
 }

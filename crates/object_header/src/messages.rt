@@ -1,9 +1,18 @@
-ghost use Rattle.std.specs.Prelude.{◌++◌, ◌∷◌, [], List, OnErr, OnOk};
-ghost use Rattle.file_model.specs.Headers.{Met};
-ghost use Rattle.object_header.specs.Gathered.{Gathers};
+ghost use Rattle.std.specs.Prelude.{◌≡◌, ◌≤◌, ◌++◌, ◌∷◌, ◌↔◌, [], IfOk, IsTrue, List, OnErr, OnOk, length};
+ghost use Rattle.h5_base.specs.Fields.{u64_at};
+ghost use Rattle.dtype.specs.declared.types.ElemType.{ElemType};
+ghost use Rattle.dtype.specs.declared.types.Shape.{Shape};
+ghost use Rattle.header_codec.specs.declared.types.Fill.{Fill};
+ghost use Rattle.header_codec.specs.declared.types.Layout.{Layout};
+ghost use Rattle.file_model.specs.Headers.{AreWhole, Met};
+ghost use Rattle.object_header.specs.Gathered.{Gathers, IsKind};
+ghost use Rattle.object_header.specs.Told.{AreParts, Fit, TellsData};
 
-use crate::kept::{Kept, keep};
-use h5_base::NoMemory;
+use crate::ObjectKind;
+use crate::kept::{Kept, keep, read_elem, read_filling, read_space, read_storage};
+use dtype::{ElemType, PartStop, Shape};
+use h5_base::{NoMemory, get_u64};
+use header_codec::{Fill, Layout};
 use std::alloc::Global;
 use std::marker::Model;
 
@@ -99,4 +108,61 @@ impl Messages {
             _ => Ok(()),
         }
     }
+
+    /// The object that the messages make, once all of the header were met. A header whose symbol table message has
+    /// fewer than 16 bytes, which isn't whole, makes no group.
+    pub fn kind(&self, alloc: Global) -> Result<ObjectKind, NoMemory>
+        ensures { IfOk result (λ k. (ms : List Met) → Gathers self.now ms → AreWhole ms → IsKind ms k) }
+    {
+        if let Some(table) = &self.table {
+            return Ok(group(table.body.as_slice()));
+        }
+        match self.dataset(alloc) {
+            Ok(kind) => Ok(kind),
+            Err(PartStop::Other) => Ok(ObjectKind::Other),
+            Err(PartStop::NoMemory) => Err(NoMemory),
+        }
+    }
+
+    // The dataset that the messages make; `Other` where they make none.
+    fn dataset(&self, alloc: Global) -> Result<ObjectKind, PartStop>
+        ensures found { IfOk result (λ k. TellsData self.now k) }
+        ensures other { result ≡ Err PartStop.Other → (shape : Shape) → (elem : ElemType) → (fill : Fill) → (layout : Layout) → AreParts self.now shape elem fill layout → ⊥ }
+    {
+        if self.files {
+            return Err(PartStop::Other);
+        }
+        let shape = read_space(alloc, &self.space)?;
+        let elem = read_elem(&self.elem)?;
+        let layout = read_storage(alloc, &self.layout)?;
+        let fill = read_filling(alloc, &self.fill, self.old_fill, elem.size())?;
+        if !fit(&shape, elem, &layout) {
+            return Err(PartStop::Other);
+        }
+        Ok(ObjectKind::Dataset {
+            shape,
+            elem,
+            fill,
+            layout,
+            filtered: self.filters,
+        })
+    }
+}
+
+// The group of a whole symbol table message.
+fn group(table: &[u8]) -> ObjectKind
+    ensures { 16 ≤ length table.now → result ≡ ObjectKind.Group (u64_at table.now 0) (u64_at table.now 8) }
+{
+    match (get_u64(table, 0), get_u64(table, 8)) {
+        (Some(tree_at), Some(heap_at)) => ObjectKind::Group { tree_at, heap_at },
+        _ => ObjectKind::Other,
+    }
+}
+
+// Whether all elements have few enough bytes together, and can be stored so.
+fn fit(shape: &Shape, elem: ElemType, layout: &Layout) -> bool
+    ensures { IsTrue result ↔ Fit shape.now elem layout.now }
+{
+    shape.dims.byte_len(elem.size()).is_some()
+        && layout.is_of_shape(shape.dims.len(), elem.size())
 }
