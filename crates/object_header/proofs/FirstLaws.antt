@@ -21,8 +21,8 @@ first-more : (kind : ℕ) (ms : List Met) (m : Met) → first_of kind (ms ++ m �
 first-more kind [] m = refl
 first-more kind (f ∷ ms) m =
     elim (f.kind == kind) as (λ b. (if b then Some f else first_of kind (ms ++ m ∷ [])) ≡ placed kind (if b then Some f else first_of kind ms) m) [
-      true ↦ sym (placed-some kind f m)
-    | false ↦ first-more kind ms m
+      | true ↦ sym (placed-some kind f m)
+      | false ↦ first-more kind ms m
     ]
 
 some-placed : (kind : ℕ) (o : Option Met) (m : Met) → is_some (placed kind o m) ≡ noted kind (is_some o) m
@@ -47,16 +47,16 @@ with_met f m = record {
 pub gathers-more : (f g : Firsts) (ms : List Met) (m : Met) → g ≡ with_met f m → Gathers f ms → Gathers g (ms ++ m ∷ [])
 gathers-more f g ms m e h =
     subst (λ (x : Firsts). Gathers x (ms ++ m ∷ [])) (sym e) (
-      record {
-        space = ap (λ o. placed 0x1 o m) h.space ∙ sym (first-more 0x1 ms m);
-        elem = ap (λ o. placed 0x3 o m) h.elem ∙ sym (first-more 0x3 ms m);
-        fill = ap (λ o. placed 0x5 o m) h.fill ∙ sym (first-more 0x5 ms m);
-        layout = ap (λ o. placed 0x8 o m) h.layout ∙ sym (first-more 0x8 ms m);
-        table = ap (λ o. placed 0x11 o m) h.table ∙ sym (first-more 0x11 ms m);
-        old_fill = ap (λ b. noted 0x4 b m) h.old_fill ∙ sym (has-more 0x4 ms m);
-        files = ap (λ b. noted 0x7 b m) h.files ∙ sym (has-more 0x7 ms m);
-        filters = ap (λ b. noted 0xB b m) h.filters ∙ sym (has-more 0xB ms m);
-      }
+    record {
+      space = ap (λ o. placed 0x1 o m) h.space ∙ sym (first-more 0x1 ms m);
+      elem = ap (λ o. placed 0x3 o m) h.elem ∙ sym (first-more 0x3 ms m);
+      fill = ap (λ o. placed 0x5 o m) h.fill ∙ sym (first-more 0x5 ms m);
+      layout = ap (λ o. placed 0x8 o m) h.layout ∙ sym (first-more 0x8 ms m);
+      table = ap (λ o. placed 0x11 o m) h.table ∙ sym (first-more 0x11 ms m);
+      old_fill = ap (λ b. noted 0x4 b m) h.old_fill ∙ sym (has-more 0x4 ms m);
+      files = ap (λ b. noted 0x7 b m) h.files ∙ sym (has-more 0x7 ms m);
+      filters = ap (λ b. noted 0xB b m) h.filters ∙ sym (has-more 0xB ms m);
+    }
     )
 
 -- ---- each type that counts

@@ -6,15 +6,14 @@ use Rattle.dtype.specs.Shapes.{SpellsShape}
 use Rattle.dtype.specs.Types.{SpellsType, size_of}
 use Rattle.dtype.specs.declared.types.ElemType.{ElemType}
 use Rattle.dtype.specs.declared.types.Shape.{Shape}
-use Rattle.header_codec.specs.Fills.{SpellsFill}
 use Rattle.header_codec.specs.Layouts.{SpellsLayout}
 use Rattle.header_codec.specs.declared.types.Fill.{Fill}
 use Rattle.header_codec.specs.declared.types.Fill.TheVariants as fill
 use Rattle.header_codec.specs.declared.types.Layout.{Layout}
-use Rattle.file_model.specs.Headers.{Met, IsWhole, AreWhole}
-use Rattle.file_model.specs.Objects.{first_of, has, is_shared, IsFirst, IsGroupHeader, DataInfo, HasFill, fill_bytes, IsDataHeader, IsOtherHeader}
+use Rattle.file_model.specs.Headers.{Met, AreWhole}
+use Rattle.file_model.specs.Objects.{first_of, has, IsFirst, DataInfo, HasFill, fill_bytes, IsDataHeader, IsOtherHeader}
 use Rattle.object_header.specs.Firsts.{Firsts}
-use Rattle.object_header.specs.Told.{Tells, TellsFill, Fit, AreParts, TellsData}
+use Rattle.object_header.specs.Told.{Tells, TellsFill, AreParts, TellsData}
 use Rattle.object_header.specs.Gathered.{Gathers, IsKind}
 use Rattle.object_header.specs.declared.types.ObjectKind.{ObjectKind}
 use Rattle.object_header.specs.declared.types.ObjectKind.TheVariants as kind
@@ -26,9 +25,9 @@ table_whole : (ms : List Met) (m : Met) → AreWhole ms → first_of 0x11 ms ≡
 table_whole [] m w h = absurd (cc)
 table_whole (f ∷ ms) m w h =
     (elim (f.kind == 0x11) as (λ b. (f.kind == 0x11) ≡ b → (if b then Some f else first_of 0x11 ms) ≡ Some m → 16 ≤ length m.body) [
-      true ↦ λ e same. let k : f.kind ≡ 0x11 = eqb-true f.kind 0x11 e in let here : f ≡ m = cc in
+      | true ↦ λ e same. let k : f.kind ≡ 0x11 = eqb-true f.kind 0x11 e in let here : f ≡ m = cc in
           subst (λ (x : Met). 16 ≤ length x.body) here (w.0 (inr k))
-    | false ↦ λ e later. table_whole ms m w.1 later
+      | false ↦ λ e later. table_whole ms m w.1 later
     ]) refl h
 
 pub group_made : (kept : Firsts) (ms : List Met) (table : Met) (k : ObjectKind) → kept.table ≡ Some table → (16 ≤ length table.body → k ≡ kind.Group (u64_at table.body 0) (u64_at table.body 8))
@@ -84,15 +83,17 @@ parts_told : (kept : Firsts) (ms : List Met) (i : DataInfo) → Gathers kept ms 
 parts_told kept ms i h d =
     let f = fill_told ms (size_of i.elem) (first_of 0x5 ms) i.fill d.fill in
     let old : TellsFill kept.old_fill (size_of i.elem) kept.fill f.0 =
-    subst (λ b. TellsFill b (size_of i.elem) kept.fill f.0) (sym h.old_fill) (subst (λ (o : Option Met). TellsFill (has 0x4 ms) (size_of i.elem) o f.0) (sym h.fill) f.1) in
-    (f.0, record {
-      no_files = h.files ∙ d.no_files;
-      space = told_first SpellsShape 0x1 ms kept.space i.shape h.space d.space;
-      type = told_first SpellsType 0x3 ms kept.elem i.elem h.elem d.type;
-      stored = told_first SpellsLayout 0x8 ms kept.layout i.layout h.layout d.layout;
-      filled = old;
-      fit = record { fits = d.fits; stored = d.stored };
-    })
+    subst (λ b. TellsFill b (size_of i.elem) kept.fill f.0) (sym h.old_fill) (subst (λ (o : Option Met). TellsFill (has 0x4 ms) (size_of i.elem) o f.0) (sym h.fill) f.1) in (
+      f.0,
+      record {
+        no_files = h.files ∙ d.no_files;
+        space = told_first SpellsShape 0x1 ms kept.space i.shape h.space d.space;
+        type = told_first SpellsType 0x3 ms kept.elem i.elem h.elem d.type;
+        stored = told_first SpellsLayout 0x8 ms kept.layout i.layout h.layout d.layout;
+        filled = old;
+        fit = record { fits = d.fits; stored = d.stored };
+      },
+    )
 
 pub data_made : (kept : Firsts) (ms : List Met) (k : ObjectKind) → kept.table ≡ None → TellsData kept k → Gathers kept ms → IsKind ms k
 data_made kept ms (kind.Group tree heap) none told h = absurd told

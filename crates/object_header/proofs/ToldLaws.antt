@@ -1,5 +1,5 @@
 -- First messages tell at most one dataset.
-use Rattle.std.proofs.Common.{◌≡◌, ℕ, Option, Some, None, refl, sym, subst, ◌∙◌}
+use Rattle.std.proofs.Common.{◌≡◌, Option, Some, None, sym, subst, ◌∙◌}
 use Rattle.dtype.specs.Shapes.{SpellsShape}
 use Rattle.dtype.specs.Types.{SpellsType, size_of}
 use Rattle.dtype.specs.declared.types.ElemType.{ElemType}

@@ -4,6 +4,8 @@
 
 mod kept;
 mod messages;
+#[cfg(test)]
+mod tests;
 mod types;
 
 pub use messages::Messages;

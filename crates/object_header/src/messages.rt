@@ -75,13 +75,7 @@ impl Messages {
 
     /// Takes in the next message of the header: its type, its flags and its data. The data are copied where they may
     /// count, and then only of the first message of their type.
-    pub fn meet(
-        &mut self,
-        alloc: Global,
-        kind: u16,
-        flags: u8,
-        body: &[u8],
-    ) -> Result<(), NoMemory>
+    pub fn meet(&mut self, alloc: Global, kind: u16, flags: u8, body: &[u8]) -> Result<(), NoMemory>
         // It is one message more.
         ensures ok { OnOk result ((ms : List Met) → Gathers self.old ms → Gathers self.new (ms ++ record { kind = kind; flags = flags; body = body.now } ∷ [])) }
         // Without memory the message isn't met.
@@ -163,6 +157,5 @@ fn group(table: &[u8]) -> ObjectKind
 fn fit(shape: &Shape, elem: ElemType, layout: &Layout) -> bool
     ensures { IsTrue result ↔ Fit shape.now elem layout.now }
 {
-    shape.dims.byte_len(elem.size()).is_some()
-        && layout.is_of_shape(shape.dims.len(), elem.size())
+    shape.dims.byte_len(elem.size()).is_some() && layout.is_of_shape(shape.dims.len(), elem.size())
 }

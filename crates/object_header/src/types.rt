@@ -5,7 +5,10 @@ use header_codec::{Fill, Layout};
 #[derive(Debug, Drop)]
 pub enum ObjectKind {
     /// A group: the addresses of its B-tree and its local heap.
-    Group { tree_at: u64, heap_at: u64 },
+    Group {
+        tree_at: u64,
+        heap_at: u64,
+    },
     /// A dataset, whose elements aren't read where it is filtered.
     Dataset {
         shape: Shape,

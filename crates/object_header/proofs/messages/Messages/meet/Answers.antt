@@ -1,7 +1,6 @@
 -- Each type that counts changes its own place, and the others nothing.
-use Rattle.std.proofs.Common.{ap, refl, arith, rules}
+use Rattle.std.proofs.Common.{ap, refl, arith}
 use Rattle.std.proofs.lemmas.Result.{on_ok_weaker}
-use Rattle.object_header.specs.Firsts.{Firsts}
 use Rattle.object_header.specs.Seen.{firsts_of}
 use Rattle.object_header.proofs.FirstLaws.{met_as, met_other, IsOther}
 use Rattle.object_header.proofs.messages.Messages.meet.Goals as goal
