@@ -103,7 +103,7 @@ impl Messages {
         }
     }
 
-    /// The object that the messages make, once all of the header were met. A header whose symbol table message has
+    /// The object that the messages make, once all of the header are met. A header whose symbol table message has
     /// fewer than 16 bytes, which isn't whole, makes no group.
     pub fn kind(&self, alloc: Global) -> Result<ObjectKind, NoMemory>
         ensures { IfOk result (λ k. (ms : List Met) → Gathers self.now ms → AreWhole ms → IsKind ms k) }
