@@ -10,4 +10,9 @@ pub mod UniqueChunks
 pub mod UniqueTree
 pub mod EmptyFile
 pub mod EditLemmas
+pub mod NoFault
+pub mod NoHeader
+pub mod NoGroups
+pub mod NoChunks
+pub mod NoRefusal
 pub mod BitesLemmas

@@ -17,7 +17,7 @@ Same cs ds bs es = (cs ≡ ds) × (bs ≡ es)
 abbrev pub IsOne : Under → Type 0
 IsOne Child = (key : ChunkKey) (at : ℕ) (cs ds : List Chunk) (bs es : List Block) → Child key at cs bs → Child key at ds es → Same cs ds bs es
 
-children_same : (Child : Under) → IsOne Child → (first : Bool) (keys : List ChunkKey) (children : List ℕ) (cs ds : List Chunk) (bs es : List Block) → AreChildren Child first keys children cs bs → AreChildren Child first keys children ds es → Same cs ds bs es
+pub children_same : (Child : Under) → IsOne Child → (first : Bool) (keys : List ChunkKey) (children : List ℕ) (cs ds : List Chunk) (bs es : List Block) → AreChildren Child first keys children cs bs → AreChildren Child first keys children ds es → Same cs ds bs es
 children_same Child one first keys [] cs ds bs es a b = (a.0 ∙ sym b.0, a.1 ∙ sym b.1)
 children_same Child one first [] (c ∷ rest) cs ds bs es a b = absurd a
 children_same Child one first (k ∷ []) (c ∷ rest) cs ds bs es a b = absurd a
@@ -26,7 +26,7 @@ children_same Child one first (k ∷ l ∷ ks) (c ∷ rest) cs ds bs es x y =
     let next = children_same Child one false (l ∷ ks) rest x.1 y.1 x.3 y.3 x.5 y.5 in
     (x.8 ∙ (λ j. one_child.0 j ++ next.0 j) ∙ sym y.8, x.9 ∙ (λ j. one_child.1 j ++ next.1 j) ∙ sym y.9)
 
-stored_same : (rank : ℕ) (sizes : List ℕ) → IsOne (IsStored rank sizes)
+pub stored_same : (rank : ℕ) (sizes : List ℕ) → IsOne (IsStored rank sizes)
 stored_same rank sizes key at cs ds bs es h k = (h.chunk ∙ sym k.chunk, h.block ∙ sym k.block)
 
 -- a node of one level, whatever key leads to it
@@ -37,12 +37,12 @@ node_same b k rank level Child one at cs ds bs es h g =
     (subst (λ (n : ChunkNode). AreChildren Child true n.keys n.children ds g.below) (sym node) g.children) in
     (below.0, h.blocks ∙ ap (λ (l : List Block). record { start = at; len = chunk_node_len k rank } ∷ l) below.1 ∙ sym g.blocks)
 
-index_same : (b : Array) (k rank : ℕ) (sizes : List ℕ) (level at : ℕ) (cs ds : List Chunk) (bs es : List Block) → IsIndex b k rank sizes level at cs bs → IsIndex b k rank sizes level at ds es → Same cs ds bs es
+pub index_same : (b : Array) (k rank : ℕ) (sizes : List ℕ) (level at : ℕ) (cs ds : List Chunk) (bs es : List Block) → IsIndex b k rank sizes level at cs bs → IsIndex b k rank sizes level at ds es → Same cs ds bs es
 index_same b k rank sizes zero at cs ds bs es = node_same b k rank 0 (IsStored rank sizes) (stored_same rank sizes) at cs ds bs es
 index_same b k rank sizes (suc level) at cs ds bs es =
     node_same b k rank (suc level) (λ key. IsIndex b k rank sizes level) (λ key at cs ds bs es. index_same b k rank sizes level at cs ds bs es) at cs ds bs es
 
-level_of : (b : Array) (k rank : ℕ) (sizes : List ℕ) (level at : ℕ) (cs : List Chunk) (bs : List Block) → IsIndex b k rank sizes level at cs bs → level ≡ (chunk_node_of rank (bytes_of b at (chunk_node_len k rank))).level
+pub level_of : (b : Array) (k rank : ℕ) (sizes : List ℕ) (level at : ℕ) (cs : List Chunk) (bs : List Block) → IsIndex b k rank sizes level at cs bs → level ≡ (chunk_node_of rank (bytes_of b at (chunk_node_len k rank))).level
 level_of b k rank sizes zero at cs bs h = sym h.level_is ∙ ap (λ (n : ChunkNode). n.level) h.spelled.value
 level_of b k rank sizes (suc level) at cs bs h = sym h.level_is ∙ ap (λ (n : ChunkNode). n.level) h.spelled.value
 

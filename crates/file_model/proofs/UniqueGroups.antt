@@ -53,7 +53,7 @@ Same fs gs bs cs = (fs ≡ gs) × (bs ≡ cs)
 abbrev pub IsOne : Under → Type 0
 IsOne Child = (at : ℕ) (fs gs : List Found) (bs cs : List Block) → Child at fs bs → Child at gs cs → Same fs gs bs cs
 
-children_same : (s : List ℕ) (Child : Under) → IsOne Child → (keys children : List ℕ) (fs gs : List Found) (bs cs : List Block) → AreChildren s Child keys children fs bs → AreChildren s Child keys children gs cs → Same fs gs bs cs
+pub children_same : (s : List ℕ) (Child : Under) → IsOne Child → (keys children : List ℕ) (fs gs : List Found) (bs cs : List Block) → AreChildren s Child keys children fs bs → AreChildren s Child keys children gs cs → Same fs gs bs cs
 children_same s Child one keys [] fs gs bs cs a b = (a.0 ∙ sym b.0, a.1 ∙ sym b.1)
 children_same s Child one [] (c ∷ rest) fs gs bs cs a b = absurd a
 children_same s Child one (k ∷ []) (c ∷ rest) fs gs bs cs a b = absurd a
@@ -62,7 +62,7 @@ children_same s Child one (k ∷ l ∷ ks) (c ∷ rest) fs gs bs cs x y =
     let next = children_same s Child one (l ∷ ks) rest x.3 y.3 x.5 y.5 x.10 y.10 in
     (x.11 ∙ (λ j. first.0 j ++ next.0 j) ∙ sym y.11, x.12 ∙ (λ j. first.1 j ++ next.1 j) ∙ sym y.12)
 
-leaf_same : (b : Array) (ks : Ks) (s : List ℕ) → IsOne (IsLeaf b ks s)
+pub leaf_same : (b : Array) (ks : Ks) (s : List ℕ) → IsOne (IsLeaf b ks s)
 leaf_same b ks s at fs gs bs cs h k =
     let entries : h.entries ≡ k.entries = h.spelled.value ∙ sym k.spelled.value in
     (links_same s h.entries fs gs h.links (subst (λ (es : List SnodEntry). AreLinks s es gs) (sym entries) k.links), h.blocks ∙ sym k.blocks)
@@ -74,12 +74,12 @@ node_same b ks s level Child one at fs gs bs cs h k =
     (subst (λ (n : GroupNode). AreChildren s Child n.keys n.children gs k.below) (sym node) k.children) in
     (below.0, h.blocks ∙ ap (λ (l : List Block). record { start = at; len = group_node_len ks.internal } ∷ l) below.1 ∙ sym k.blocks)
 
-index_same : (b : Array) (ks : Ks) (s : List ℕ) (level : ℕ) → IsOne (IsIndex b ks s level)
+pub index_same : (b : Array) (ks : Ks) (s : List ℕ) (level : ℕ) → IsOne (IsIndex b ks s level)
 index_same b ks s zero = node_same b ks s 0 (IsLeaf b ks s) (leaf_same b ks s)
 index_same b ks s (suc level) = node_same b ks s (suc level) (IsIndex b ks s level) (index_same b ks s level)
 
 -- the root node tells the level
-level_of : (b : Array) (ks : Ks) (s : List ℕ) (level at : ℕ) (fs : List Found) (bs : List Block) → IsIndex b ks s level at fs bs → level ≡ (group_node_of (bytes_of b at (group_node_len ks.internal))).level
+pub level_of : (b : Array) (ks : Ks) (s : List ℕ) (level at : ℕ) (fs : List Found) (bs : List Block) → IsIndex b ks s level at fs bs → level ≡ (group_node_of (bytes_of b at (group_node_len ks.internal))).level
 level_of b ks s zero at fs bs h = sym h.level_is ∙ ap (λ (n : GroupNode). n.level) h.spelled.value
 level_of b ks s (suc level) at fs bs h = sym h.level_is ∙ ap (λ (n : GroupNode). n.level) h.spelled.value
 

@@ -19,7 +19,7 @@ use Rattle.file_model.specs.Objects.{first_of, IsGroupHeader, DataInfo, HasFill,
 abbrev pub told : Met → ℕ → Message
 told m at = record { kind = m.kind; flags = m.flags; at = at + 8; len = length m.body }
 
-message_same : (bytes : List ℕ) (at : ℕ) (m n : Met) → SpellsMessage (told m at) bytes at → m.body ≡ bytes_at bytes (at + 8) (length m.body) → SpellsMessage (told n at) bytes at
+pub message_same : (bytes : List ℕ) (at : ℕ) (m n : Met) → SpellsMessage (told m at) bytes at → m.body ≡ bytes_at bytes (at + 8) (length m.body) → SpellsMessage (told n at) bytes at
     → n.body ≡ bytes_at bytes (at + 8) (length n.body) → m ≡ n
 message_same bytes at m n a body b other =
     let same : told m at ≡ told n at = a.value ∙ sym b.value in
@@ -39,7 +39,7 @@ stand_same bytes at (m ∷ ms) (n ∷ ns) a b e =
     (λ j. head j ∷ stand_same bytes (at + 8 + length m.body) ms ns a.2 next (omega arith) j)
 
 -- where no further message fits, no list is longer
-stand_short : (bytes : List ℕ) (at : ℕ) (ms ns : List Met) → Stand bytes at ms → Stand bytes at ns → length bytes < after at ms + 8 → length ns ≤ length ms
+pub stand_short : (bytes : List ℕ) (at : ℕ) (ms ns : List Met) → Stand bytes at ms → Stand bytes at ns → length bytes < after at ms + 8 → length ns ≤ length ms
 stand_short bytes at ms [] a b lt = omega arith
 stand_short bytes at [] (n ∷ ns) a b lt = let fits = b.0.message.head in absurd (omega arith)
 stand_short bytes at (m ∷ ms) (n ∷ ns) a b lt =
@@ -47,7 +47,7 @@ stand_short bytes at (m ∷ ms) (n ∷ ns) a b lt =
     let next : Stand bytes (at + 8 + length m.body) ns = subst (λ (x : Met). Stand bytes (at + 8 + length x.body) ns) (sym head) b.2 in
     omega (arith, stand_short bytes (at + 8 + length m.body) ms ns a.2 next lt)
 
-read_same : (bytes : List ℕ) (count : ℕ) (ms ns : List Met) → Stand bytes 0 ms → Stand bytes 0 ns → length ms ≤ count → length ns ≤ count → IsRead bytes count ms → IsRead bytes count ns → ms ≡ ns
+pub read_same : (bytes : List ℕ) (count : ℕ) (ms ns : List Met) → Stand bytes 0 ms → Stand bytes 0 ns → length ms ≤ count → length ns ≤ count → IsRead bytes count ms → IsRead bytes count ns → ms ≡ ns
 read_same bytes count ms ns a b am bm ar br = stand_same bytes 0 ms ns a b (omega (arith, less ms ns a b am bm ar, less ns ms b a bm am br))
   where
     less : (ms ns : List Met) → Stand bytes 0 ms → Stand bytes 0 ns → length ms ≤ count → length ns ≤ count → IsRead bytes count ms → length ns ≤ length ms

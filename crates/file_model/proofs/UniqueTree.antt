@@ -15,11 +15,11 @@ use Rattle.file_model.proofs.UniqueGroups.{links_are}
 use Rattle.file_model.proofs.UniqueChunks.{storage_same}
 
 -- two readings of one header
-record Readings (b : Array) (at other : ℕ) (p q : Prefix) (ps qs : List Part) : Type 0 where
-  prefix : p ≡ q
-  parts : ps ≡ qs
+pub record Readings (b : Array) (at other : ℕ) (p q : Prefix) (ps qs : List Part) : Type 0 where
+  pub prefix : p ≡ q
+  pub parts : ps ≡ qs
 
-readings : (b : Array) (at other : ℕ) (p q : Prefix) (ps qs : List Part) → at ≡ other → IsHeader b at p ps → IsHeader b other q qs → Readings b at other p q ps qs
+pub readings : (b : Array) (at other : ℕ) (p q : Prefix) (ps qs : List Part) → at ≡ other → IsHeader b at p ps → IsHeader b other q qs → Readings b at other p q ps qs
 readings b at other p q ps qs e h k =
     let k' : IsHeader b at q qs = subst (λ (n : ℕ). IsHeader b n q qs) (sym e) k in
     record { prefix = prefix_same b at p q ps qs h k'; parts = header_same b at p q ps qs h k' }
@@ -27,7 +27,7 @@ readings b at other p q ps qs e h k =
 header_blocks_same : (at other : ℕ) (p q : Prefix) (ps qs : List Part) → at ≡ other → p ≡ q → ps ≡ qs → header_blocks at p ps ≡ header_blocks other q qs
 header_blocks_same at other p q ps qs e f g = (λ j. header_blocks (e j) (f j) (g j))
 
-group_are : (b : Array) (ks : Ks) (g h : GroupAt) (fs gs : List Found) → g.header_at ≡ h.header_at → IsGroup b ks g fs → IsGroup b ks h gs → (g ≡ h) × (fs ≡ gs)
+pub group_are : (b : Array) (ks : Ks) (g h : GroupAt) (fs gs : List Found) → g.header_at ≡ h.header_at → IsGroup b ks g fs → IsGroup b ks h gs → (g ≡ h) × (fs ≡ gs)
 group_are b ks g h fs gs e x y =
     let r = readings b g.header_at h.header_at x.prefix y.prefix x.parts y.parts e x.header y.header in
     let table : IsGroupHeader (messages_of x.parts) h.tree_at h.heap_at = subst (λ (ps : List Part). IsGroupHeader (messages_of ps) h.tree_at h.heap_at) (sym r.parts) y.table in
@@ -52,7 +52,7 @@ data_are b ks d e at x y =
     (λ j. record { header_at = at j; info = info j; chunks = same.0 j; elements = elements j; own = own j })
 
 -- a header of version 1 doesn't begin as one of a later version
-not_later : (b : Array) (at : ℕ) (p : Prefix) (ps : List Part) → IsHeader b at p ps → bytes_of b at 4 ≡ later_header → ⊥
+pub not_later : (b : Array) (at : ℕ) (p : Prefix) (ps : List Part) → IsHeader b at p ps → bytes_of b at 4 ≡ later_header → ⊥
 not_later b at p ps h is =
     let one : b at ≡ 1 = h.spelled.prefix.version in
     let other : b at ≡ 0x4F = cc in
@@ -72,7 +72,7 @@ other_are b o u at (Later x) (Later y) =
     (λ j. record { header_at = at j; own = own j })
 
 -- a group is neither a dataset nor another object, and a dataset is no other object
-table_or_none : (ms : List Met) (t h : ℕ) → IsGroupHeader ms t h → has 0x11 ms ≡ false → ⊥
+pub table_or_none : (ms : List Met) (t h : ℕ) → IsGroupHeader ms t h → has 0x11 ms ≡ false → ⊥
 table_or_none ms t h group none = let found : has 0x11 ms ≡ true = ap is_some group.first in cc
 
 group_not_data : (b : Array) (ks : Ks) (g : GroupAt) (d : DataAt) (fs : List Found) → g.header_at ≡ d.header_at → IsGroup b ks g fs → IsData b ks d → ⊥
@@ -92,7 +92,7 @@ data_not_other b ks d o at x (Unsupported y) =
     y.told.no_data d.info (subst (λ (ps : List Part). IsDataHeader (messages_of ps) d.info) r.parts x.told)
 data_not_other b ks d o at x (Later y) = not_later b d.header_at x.prefix x.parts x.header (ap (λ (n : ℕ). bytes_of b n 4) at ∙ y.signature)
 
-header_is : (x y : ℕ) → Header x ≡ Header y → x ≡ y
+pub header_is : (x y : ℕ) → Header x ≡ Header y → x ≡ y
 header_is x y h = cc
 
 text_is : (x y : List ℕ) → Text x ≡ Text y → x ≡ y
@@ -109,7 +109,7 @@ leaf_same b ks (OtherLeaf o) (DataLeaf e) x y at = absurd (data_not_other b ks e
 leaf_same b ks (OtherLeaf o) (SoftLeaf u) x y at = cc
 leaf_same b ks (OtherLeaf o) (OtherLeaf u) x y at = ap OtherLeaf (other_are b o u (header_is _ _ at) x y)
 
-group_no_leaf : (b : Array) (ks : Ks) (g : GroupAt) (fs : List Found) (l : LeafAt) → IsGroup b ks g fs → IsLeafHeld b ks l → Header g.header_at ≡ leaf_target l → ⊥
+pub group_no_leaf : (b : Array) (ks : Ks) (g : GroupAt) (fs : List Found) (l : LeafAt) → IsGroup b ks g fs → IsLeafHeld b ks l → Header g.header_at ≡ leaf_target l → ⊥
 group_no_leaf b ks g fs (DataLeaf d) x y at = group_not_data b ks g d fs (header_is _ _ at) x y
 group_no_leaf b ks g fs (SoftLeaf t) x y at = cc
 group_no_leaf b ks g fs (OtherLeaf o) x y at = group_not_other b ks g o fs (header_is _ _ at) x y

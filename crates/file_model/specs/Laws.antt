@@ -9,6 +9,9 @@ use Rattle.object_model.specs.Tree.{Group, Leaf, Empty, Link, Name, same_name, w
 use Rattle.object_model.specs.Step.{Plain, new_group}
 use Rattle.outside.specs.Blocks.{Block, Bounds, Agree}
 use Rattle.file_model.specs.Groups.{Ks}
+use Rattle.file_model.specs.Limits.{IsWithinLimits}
+use Rattle.file_model.specs.Refusals.{Refusal}
+use Rattle.file_model.specs.RefusedTree.{IsFileRefused}
 use Rattle.file_model.specs.Holds.{Full, FullLinks, GroupAt, IsHeld, AreHeld, blocks_of, blocks_in, leaf_blocks, target_of, plain, Holds, HoldsFull}
 
 -- what a link leads to is one object
@@ -88,3 +91,10 @@ FileFrame = (b c : Array) (e f : Bounds) (s : Superblock) (g : GroupAt) (ls : Fu
 -- where ends rise, the tree stays held
 abbrev pub RiseLaw : Type 0
 RiseLaw = (b : Array) (e f : Bounds) (t : Plain) → Rises e f → Holds b e t → Holds b f t
+
+-- ---- refusals
+
+-- a file whose tree is held within the limits is refused by no line
+abbrev pub NotRefused : Type 0
+NotRefused = (b : Array) (e : Bounds) (s : Superblock) (g : GroupAt) (ls : FullLinks) (h : HoldsFull b e s g ls) (r : Refusal)
+    → IsWithinLimits b (all_blocks s h.driver (Group g ls)) (Group g ls) → IsFileRefused b e r → ⊥

@@ -1,7 +1,7 @@
 //! Laws of what the bytes of a file hold. Each function does nothing: its clause is the law.
 
 ghost use Rattle.file_model.specs.Bites.{DisorderInNode, DisorderInGroup, NameBelowKey, NameAboveKey, KeyOutside, SharedByte, PastEnd, OwnContinuation, LooseChunk, HugeSpace, PlaceInChunk};
-ghost use Rattle.file_model.specs.Laws.{OneObject, OneFull, OneTree, FrameLaw, EmptyFile, EditLaw, FileFrame, InsertLaw, RemoveLaw, ReplaceLaw, PlainEdit, RiseLaw};
+ghost use Rattle.file_model.specs.Laws.{OneObject, OneFull, OneTree, FrameLaw, EmptyFile, EditLaw, FileFrame, InsertLaw, RemoveLaw, ReplaceLaw, PlainEdit, RiseLaw, NotRefused};
 
 /// What a link leads to is one object: of one kind, with one list of links or elements, and one list of blocks.
 pub fn one_object()
@@ -61,6 +61,11 @@ pub fn rises()
 /// The bytes of an empty file hold the tree of one group without links.
 pub fn empty_file()
     ensures { EmptyFile }
+{}
+
+/// No line of the refusals says that a file is refused whose tree is held within the limits.
+pub fn not_refused()
+    ensures { NotRefused }
 {}
 
 /// What no bytes hold.

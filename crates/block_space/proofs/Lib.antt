@@ -1,0 +1,6 @@
+pub mod NextKeys
+pub mod Apart
+pub mod Listed
+pub mod SixClasses
+pub mod Joined
+pub mod BytesRead

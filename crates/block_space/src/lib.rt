@@ -1,0 +1,13 @@
+//! A catalogue of the blocks of an HDF5 file, by address, over any space of addresses.
+#![tactic(auto)]
+
+mod blocks;
+mod neighbours;
+mod regions;
+
+pub use blocks::{AdoptStop, Blocks};
+
+#[cfg(test)]
+mod memory;
+#[cfg(test)]
+mod tests;

@@ -1,0 +1,5 @@
+pub mod Nodes
+pub mod Slots
+pub mod Entries
+pub mod Shown
+pub mod Laws
