@@ -1,0 +1,4 @@
+pub mod Firsts
+pub mod Seen
+pub mod Told
+pub mod Gathered
