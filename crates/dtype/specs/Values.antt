@@ -1,6 +1,6 @@
 -- What the bytes of an element mean, which bytes a value has, and how a value is printed, by the HDF5 File Format
 -- Specification 3.0, IV.A.2.d (classes 0 and 3). Cited by `encode_value` and `print_value`, and by whatever reads,
--- writes or prints elements.
+-- writes or prints elements, texts in quotes or names.
 use Rattle.std.specs.Prelude.{ℕ, ◌+◌, ◌-◌, ◌*◌, ◌/◌, ◌%◌, ◌^◌, ◌≤◌, ◌≤ℤ◌, ◌<ℤ◌, neg_ℤ, ◌==◌, Bool, true, false, not, ◌&&◌, if◌then◌else◌, ℤ, pos, List, [], ◌∷◌, ◌++◌, length, take, replicate, flat_map}
 use Rattle.std.specs.Int.{Width, w8, w16, w32, w64, cast_signed, cast_unsigned, to_le_bytes, to_be_bytes, from_le_bytes, from_be_bytes, is_in_range}
 use Rattle.std.specs.List.{take_while, suffix_len}
@@ -98,9 +98,13 @@ canonical (elem.Text size pad) (value.Text text) = value.Text (unpadded pad text
 abbrev pub is_plain : ℕ → Bool
 is_plain b = is_in_range 0x20 0x7E b && not (b == 34) && not (b == 92)
 
--- itself, or `\xHH` with capital digits
+-- a byte by its number: `\xHH` with capital digits
+abbrev pub escape : ℕ → List ℕ
+escape b = 92 ∷ 120 ∷ digit_glyph true (b / 16) ∷ digit_glyph true (b % 16) ∷ []
+
+-- itself, or by its number
 abbrev pub symbol : ℕ → List ℕ
-symbol b = if is_plain b then (b ∷ []) else (92 ∷ 120 ∷ digit_glyph true (b / 16) ∷ digit_glyph true (b % 16) ∷ [])
+symbol b = if is_plain b then (b ∷ []) else escape b
 
 -- in double quotes
 abbrev pub quoted : List ℕ → List ℕ

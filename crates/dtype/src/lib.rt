@@ -2,6 +2,7 @@
 #![tactic(auto)]
 
 mod dims;
+mod escapes;
 mod numbers;
 mod shape_codec;
 #[cfg(test)]
@@ -12,6 +13,7 @@ mod types;
 mod values;
 
 pub use dims::Dims;
+pub use escapes::{append, append_escape, is_plain};
 pub use shape_codec::{read_shape, write_shape};
 pub use type_codec::{read_type, write_type};
 pub use types::{ElemType, Pad, PartStop, Shape, Value, ValueStop};

@@ -1,8 +1,8 @@
-ghost use Rattle.std.specs.Prelude.{◌≡◌, ◌<◌, ◌≤◌, ◌+◌, ◌++◌, ◌↔◌, IfOk, OnOk, IsTrue, length, true};
-ghost use Rattle.std.specs.Fmt.{digit_glyph};
-ghost use Rattle.dtype.specs.Values.{filler, is_plain, least_fill, quoted, symbol, text_bytes, unpadded, without_last};
+ghost use Rattle.std.specs.Prelude.{◌≡◌, ◌<◌, ◌≤◌, ◌+◌, ◌++◌, ◌↔◌, IfOk, OnOk, IsTrue, length};
+ghost use Rattle.dtype.specs.Values.{filler, least_fill, quoted, symbol, text_bytes, unpadded, without_last};
 
 use crate::Pad;
+use crate::escapes::{append, append_escape, is_plain};
 use h5_base::{Bytes, NoMemory};
 use std::alloc::Global;
 
@@ -86,43 +86,14 @@ pub(crate) fn trim_padding(pad: Pad, elem: &[u8]) -> &[u8]
     }
 }
 
-fn hex_digit(digit: u8) -> u8
-    requires { digit < 16 }
-    ensures { result ≡ digit_glyph true digit }
-{
-    if digit < 10 {
-        b'0' + digit
-    } else {
-        b'A' + (digit - 10)
-    }
-}
-
-fn append(text: &mut Vec<u8>, bytes: &[u8]) -> Result<(), NoMemory>
-    ensures { OnOk result (text.new.items ≡ text.old.items ++ bytes.now) }
-{
-    match text.extend_from_slice(bytes) {
-        Ok(()) => Ok(()),
-        Err(_) => Err(NoMemory),
-    }
-}
-
-fn is_plain_byte(byte: u8) -> bool
-    ensures { result ≡ is_plain byte }
-{
-    0x20 <= byte && byte <= 0x7E && byte != b'"' && byte != b'\\'
-}
-
 /// Appends the byte as it stands in a quoted text.
 fn append_symbol(text: &mut Vec<u8>, byte: u8) -> Result<(), NoMemory>
     ensures { OnOk result (text.new.items ≡ text.old.items ++ symbol byte) }
 {
-    if is_plain_byte(byte) {
+    if is_plain(byte) {
         append(text, &[byte])
     } else {
-        append(
-            text,
-            &[b'\\', b'x', hex_digit(byte / 16), hex_digit(byte % 16)],
-        )
+        append_escape(text, byte)
     }
 }
 

@@ -5,21 +5,32 @@ use std::io;
 use std::io::ErrorKind;
 use std::os::unix::fs::FileExt;
 
-/// A file of the current folder: open once something was asked of it.
+/// What this run has seen of a file.
+#[derive(Drop)]
+enum Seen {
+    /// Nothing was asked of it yet.
+    Nothing,
+    /// There was no file by this name.
+    Absent,
+    Open(File),
+}
+
+/// A file of the current folder, looked for once, when something is first asked of it. One that was absent then stays
+/// so until this run makes it; that fails where another program has made it since.
 #[derive(Drop)]
 pub struct Entry {
     path: String,
-    file: Option<File>,
+    seen: Seen,
     /// This run made the file, and the folder wasn't synced since then.
     is_new: bool,
 }
 
 /// The file, where there is one. One that can't be written is opened for reading.
-fn open_existing(rt: &HostRuntime, path: &str) -> io::Result<Option<File>> {
+fn open_existing(rt: &HostRuntime, path: &str) -> io::Result<Seen> {
     match OpenOptions::new().read(true).write(true).open(rt, path) {
-        Ok(file) => Ok(Some(file)),
-        Err(e) if e.kind() == ErrorKind::NotFound => Ok(None),
-        Err(e) if e.kind() == ErrorKind::PermissionDenied => Ok(Some(File::open(rt, path)?)),
+        Ok(file) => Ok(Seen::Open(file)),
+        Err(e) if e.kind() == ErrorKind::NotFound => Ok(Seen::Absent),
+        Err(e) if e.kind() == ErrorKind::PermissionDenied => Ok(Seen::Open(File::open(rt, path)?)),
         Err(e) => Err(e),
     }
 }
@@ -47,15 +58,15 @@ impl Entry {
     pub fn new(path: String) -> Entry {
         Entry {
             path,
-            file: None,
+            seen: Seen::Nothing,
             is_new: false,
         }
     }
 
     // Opens the file where there is one.
     fn look(&mut self, rt: &HostRuntime) -> io::Result<()> {
-        if self.file.is_none() {
-            self.file = open_existing(rt, self.path.as_str())?;
+        if matches!(&self.seen, Seen::Nothing) {
+            self.seen = open_existing(rt, self.path.as_str())?;
         }
         Ok(())
     }
@@ -63,8 +74,8 @@ impl Entry {
     // Makes the file where there is none.
     fn make(&mut self, rt: &HostRuntime) -> io::Result<()> {
         self.look(rt)?;
-        if self.file.is_none() {
-            self.file = Some(File::create_new(rt, self.path.as_str())?);
+        if matches!(&self.seen, Seen::Absent) {
+            self.seen = Seen::Open(File::create_new(rt, self.path.as_str())?);
             self.is_new = true;
         }
         Ok(())
@@ -73,9 +84,9 @@ impl Entry {
     /// The length in bytes, 0 where there is no file.
     pub fn len(&mut self, rt: &HostRuntime) -> io::Result<u64> {
         self.look(rt)?;
-        match &self.file {
-            Some(file) => Ok(file.metadata()?.len()),
-            None => Ok(0),
+        match &self.seen {
+            Seen::Open(file) => Ok(file.metadata()?.len()),
+            Seen::Nothing | Seen::Absent => Ok(0),
         }
     }
 
@@ -84,18 +95,18 @@ impl Entry {
         ensures bound { ReadsAtMost result out.new }
     {
         self.look(rt)?;
-        match &self.file {
-            Some(file) => read_whole(file, at, out),
-            None => Ok(0),
+        match &self.seen {
+            Seen::Open(file) => read_whole(file, at, out),
+            Seen::Nothing | Seen::Absent => Ok(0),
         }
     }
 
     /// Writes all bytes from `at` on.
     pub fn write(&mut self, rt: &HostRuntime, at: u64, bytes: &[u8]) -> io::Result<()> {
         self.make(rt)?;
-        match &self.file {
-            Some(file) => file.write_all_at(bytes, at),
-            None => Ok(()),
+        match &self.seen {
+            Seen::Open(file) => file.write_all_at(bytes, at),
+            Seen::Nothing | Seen::Absent => Ok(()),
         }
     }
 
@@ -106,18 +117,18 @@ impl Entry {
         } else {
             self.look(rt)?;
         }
-        match &self.file {
-            Some(file) => file.set_len(n),
-            None => Ok(()),
+        match &self.seen {
+            Seen::Open(file) => file.set_len(n),
+            Seen::Nothing | Seen::Absent => Ok(()),
         }
     }
 
     /// Makes the file last, and its name where this run made it.
     pub fn sync(&mut self, rt: &HostRuntime) -> io::Result<()> {
         self.look(rt)?;
-        match &self.file {
-            Some(file) => file.sync_all()?,
-            None => {}
+        match &self.seen {
+            Seen::Open(file) => file.sync_all()?,
+            Seen::Nothing | Seen::Absent => {}
         }
         if self.is_new {
             File::open(rt, ".")?.sync_all()?;

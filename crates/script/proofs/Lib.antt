@@ -6,6 +6,7 @@ pub mod MkdataLemmas
 pub mod NumberLemmas
 pub mod OneCommand
 pub mod PrintLemmas
+pub mod PrintedAgain
 pub mod Runs
 pub mod ScriptExamples
 pub mod SizeLemmas

@@ -1,3 +1,4 @@
+pub mod Again
 pub mod Line
 pub mod Names
 pub mod Numbers

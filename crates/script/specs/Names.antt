@@ -2,6 +2,7 @@
 -- Cited by the reader of a line.
 use Rattle.std.specs.Prelude.{◌≡◌, ℕ, ◌+◌, ◌*◌, ◌-◌, nat_le, Bool, true, false, not, ◌&&◌, ◌==◌, List, [], ◌∷◌, Option, Some, None, if◌then◌else◌, option_and_then, ◌⊎◌}
 use Rattle.std.specs.List.{AllZip}
+use Rattle.dtype.specs.Values as values
 use Rattle.script.specs.Words.{split_on, IsRun}
 use Rattle.script.specs.declared.symbols.Within.{Within}
 use Rattle.script.specs.declared.symbols.Within.TheVariants.{Path, Quotes}
@@ -9,7 +10,7 @@ use Rattle.script.specs.declared.symbols.Within.TheVariants.{Path, Quotes}
 -- a byte that may stand for itself: within a path 0x21 to 0x7E other than `\`, within quotes as values are printed
 abbrev pub is_plain : Within → ℕ → Bool
 is_plain Path c = nat_le 0x21 c && nat_le c 0x7E && not (c == 92)
-is_plain Quotes c = nat_le 0x20 c && nat_le c 0x7E && not (c == 34) && not (c == 92)
+is_plain Quotes c = values.is_plain c
 
 -- a byte that may be written by its number: one that isn't plain, and within a path `>` too
 abbrev pub may_escape : Within → ℕ → Bool

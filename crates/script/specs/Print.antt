@@ -3,9 +3,9 @@
 use Rattle.std.specs.Prelude.{◌≡◌, ℕ, ◌+◌, ◌*◌, ◌/◌, ◌%◌, ◌==◌, Bool, true, false, not, ◌&&◌, if◌then◌else◌, List, [], ◌∷◌, ◌++◌, length, codes, Option, Some, None}
 use Rattle.std.specs.Int.{is_in_range}
 use Rattle.std.specs.List.{flat_map, slice_range, range_with_len}
-use Rattle.std.specs.Fmt.{decimal, digit_glyph}
+use Rattle.std.specs.Fmt.{decimal}
 use Rattle.dtype.specs.Types.{IsElemType, size_of}
-use Rattle.dtype.specs.Values.{value_of, value_text}
+use Rattle.dtype.specs.Values.{escape, value_of, value_text}
 use Rattle.dtype.specs.declared.types.Pad.{Pad}
 use Rattle.dtype.specs.declared.types.Pad.TheVariants.{Nul, Ended, Space}
 use Rattle.dtype.specs.declared.types.ElemType.{ElemType}
@@ -24,9 +24,9 @@ use Rattle.object_model.specs.declared.answer.Code.TheVariants as code
 abbrev pub is_plain_name : ℕ → Bool
 is_plain_name b = is_in_range 0x21 0x7E b && not (b == 92) && not (b == 62)
 
--- itself, or `\xHH` with capital digits
+-- itself, or by its number
 abbrev pub name_symbol : ℕ → List ℕ
-name_symbol b = if is_plain_name b then (b ∷ []) else (92 ∷ 120 ∷ digit_glyph true (b / 16) ∷ digit_glyph true (b % 16) ∷ [])
+name_symbol b = if is_plain_name b then (b ∷ []) else escape b
 
 abbrev pub name_text : List ℕ → List ℕ
 name_text = flat_map name_symbol

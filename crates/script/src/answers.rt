@@ -5,9 +5,9 @@ ghost use Rattle.dtype.specs.Types.{IsElemType, size_of};
 ghost use Rattle.dtype.specs.Values.{value_of, value_text};
 ghost use Rattle.script.specs.Print.{HasText, answer_text, code_text, element_at, filtered_text, layout_text, link_text, shown_letter, target_text, values_text};
 
-use crate::texts::{put, put_chunk, put_name, put_number, put_sizes, put_type};
+use crate::texts::{put_chunk, put_name, put_number, put_sizes, put_type};
 use crate::{Answer, Code, LinkLine, Shown};
-use dtype::{Dims, ElemType, print_value};
+use dtype::{Dims, ElemType, append, print_value};
 use h5_base::{Bytes, NoMemory};
 use std::alloc::Global;
 
@@ -23,7 +23,7 @@ fn put_value(
     ensures { OnOk result (text.new.items ≡ text.old.items ++ value_text (value_of elem_type.now elem.now)) }
 {
     let printed = print_value(alloc, elem_type, elem)?;
-    put(text, printed.as_slice())
+    append(text, printed.as_slice())
 }
 
 /// The bytes that an element has.
@@ -63,7 +63,7 @@ fn put_values(
 {
     let count = bytes.len() / elem_size(elem_type);
     for index in 0..count {
-        put(text, b" ")?;
+        append(text, b" ")?;
         put_value(alloc, text, elem_type, element(elem_type, bytes, index))?;
     }
     Ok(())
@@ -73,10 +73,10 @@ fn put_letter(text: &mut Vec<u8>, shown: &Shown) -> Result<(), NoMemory>
     ensures { OnOk result (text.new.items ≡ text.old.items ++ shown_letter shown.now) }
 {
     match shown {
-        Shown::Group => put(text, b" g:"),
-        Shown::Dataset => put(text, b" d:"),
-        Shown::Soft(_) => put(text, b" l:"),
-        Shown::Other => put(text, b" o:"),
+        Shown::Group => append(text, b" g:"),
+        Shown::Dataset => append(text, b" d:"),
+        Shown::Soft(_) => append(text, b" l:"),
+        Shown::Other => append(text, b" o:"),
     }
 }
 
@@ -85,7 +85,7 @@ fn put_target(text: &mut Vec<u8>, shown: &Shown) -> Result<(), NoMemory>
 {
     match shown {
         Shown::Soft(target) => {
-            put(text, b">")?;
+            append(text, b">")?;
             put_name(text, target.as_slice())
         }
         _ => Ok(()),
@@ -122,11 +122,11 @@ fn put_layout(
     ensures { OnOk result (text.new.items ≡ text.old.items ++ layout_text elem_type.now dims.now max.now chunk.now) }
 {
     put_type(alloc, text, elem_type)?;
-    put(text, b" dims ")?;
+    append(text, b" dims ")?;
     put_sizes(alloc, text, false, dims.as_slice())?;
-    put(text, b" max ")?;
+    append(text, b" max ")?;
     put_sizes(alloc, text, true, max.as_slice())?;
-    put(text, b" chunk ")?;
+    append(text, b" chunk ")?;
     put_chunk(alloc, text, chunk)
 }
 
@@ -141,10 +141,10 @@ fn put_fill(
     requires whole { length fill.now ≡ size_of elem_type.now }
     ensures { OnOk result (text.new.items ≡ text.old.items ++ (codes " fill " ++ value_text (value_of elem_type.now fill.now) ++ filtered_text filtered)) }
 {
-    put(text, b" fill ")?;
+    append(text, b" fill ")?;
     put_value(alloc, text, elem_type, fill.as_slice())?;
     if filtered {
-        put(text, b" filtered")
+        append(text, b" filtered")
     } else {
         Ok(())
     }
@@ -185,7 +185,7 @@ fn put_two(
     ensures { OnOk result (text.new.items ≡ text.old.items ++ (decimal first ++ between.now ++ decimal second)) }
 {
     put_number(alloc, text, first)?;
-    put(text, between)?;
+    append(text, between)?;
     put_number(alloc, text, second)
 }
 
@@ -194,17 +194,17 @@ fn put_answer(alloc: Global, text: &mut Vec<u8>, answer: &Answer) -> Result<(), 
     ensures { OnOk result (text.new.items ≡ text.old.items ++ answer_text answer.now) }
 {
     match answer {
-        Answer::Done => put(text, b"ok"),
+        Answer::Done => append(text, b"ok"),
         Answer::Values { elem, bytes } => {
-            put(text, b"ok")?;
+            append(text, b"ok")?;
             put_values(alloc, text, elem, bytes.as_slice())
         }
         Answer::Links { items } => {
-            put(text, b"ok")?;
+            append(text, b"ok")?;
             put_links(text, items.as_slice())
         }
         Answer::Group { links } => {
-            put(text, b"ok group ")?;
+            append(text, b"ok group ")?;
             put_number(alloc, text, *links)
         }
         Answer::Dataset {
@@ -215,26 +215,26 @@ fn put_answer(alloc: Global, text: &mut Vec<u8>, answer: &Answer) -> Result<(), 
             fill,
             filtered,
         } => {
-            put(text, b"ok data ")?;
+            append(text, b"ok data ")?;
             put_layout(alloc, text, elem, dims, max, chunk)?;
             put_fill(alloc, text, elem, fill, *filtered)
         }
         Answer::Soft { target } => {
-            put(text, b"ok link ")?;
+            append(text, b"ok link ")?;
             put_name(text, target.as_slice())
         }
-        Answer::Other => put(text, b"ok other"),
+        Answer::Other => append(text, b"ok other"),
         Answer::Committed { rev, pages } => {
-            put(text, b"ok rev ")?;
+            append(text, b"ok rev ")?;
             put_two(alloc, text, u64::from(*rev), b" pages ", *pages)
         }
         Answer::Full { end, need } => {
-            put(text, b"no full ")?;
+            append(text, b"no full ")?;
             put_two(alloc, text, *end, b" ", *need)
         }
         Answer::No { code } => {
-            put(text, b"no ")?;
-            put(text, code_word(*code))
+            append(text, b"no ")?;
+            append(text, code_word(*code))
         }
     }
 }

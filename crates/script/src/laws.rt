@@ -1,5 +1,6 @@
 //! Laws that show that the grammar is what it should be. Each function does nothing: its clause is the law.
 
+ghost use Rattle.script.specs.Again.{NamesAgain, TypesAgain};
 ghost use Rattle.script.specs.Script.{EmptyLines, OneCommand, OneScript, TwoAnswers, TwoLines};
 
 /// A line spells one command.
@@ -10,6 +11,12 @@ pub fn one_command()
 /// A script has one list of commands and bad lines.
 pub fn one_script()
     ensures { OneScript }
+{}
+
+/// What is printed as a name or a type spells it.
+pub fn printed_again()
+    ensures names { NamesAgain }
+    ensures types { TypesAgain }
 {}
 
 /// Worked scripts and answers.

@@ -17,7 +17,7 @@ fn is_plain(within: Within, c: u8) -> bool
 {
     match within {
         Within::Path => 0x21 <= c && c <= 0x7E && c != b'\\',
-        Within::Quotes => 0x20 <= c && c <= 0x7E && c != b'"' && c != b'\\',
+        Within::Quotes => dtype::is_plain(c),
     }
 }
 

@@ -4,21 +4,21 @@ ghost use Rattle.script.specs.Print.{HasText};
 
 use crate::answers::print_answer;
 use crate::lines::read_line;
-use crate::texts::{put, put_name, put_number, put_sizes, put_type};
+use crate::texts::{put_name, put_number, put_sizes, put_type};
 use crate::{Answer, Code, Command, LineStop, LinkLine, Path, Shown};
-use dtype::{Dims, ElemType, Pad, Value};
+use dtype::{Dims, ElemType, Pad, Value, append};
 use h5_base::{Bytes, LinkName, List, NoMemory};
 use std::alloc::Global;
 use std::process::Abort;
 use std::test::Fail;
 
 fn put_path(text: &mut Vec<u8>, path: &Path) -> Result<(), NoMemory> {
-    put(text, b" ")?;
+    append(text, b" ")?;
     if path.len() == 0 {
-        put(text, b"/")?;
+        append(text, b"/")?;
     }
     for name in path.as_slice() {
-        put(text, b"/")?;
+        append(text, b"/")?;
         put_name(text, name.as_slice())?;
     }
     Ok(())
@@ -30,7 +30,7 @@ fn put_list(
     maximum: bool,
     sizes: &Dims,
 ) -> Result<(), NoMemory> {
-    put(text, b" ")?;
+    append(text, b" ")?;
     put_sizes(alloc, text, maximum, sizes.as_slice())
 }
 
@@ -42,7 +42,7 @@ fn put_option(
     sizes: &Option<Dims>,
 ) -> Result<(), NoMemory> {
     if let Some(sizes) = sizes {
-        put(text, word)?;
+        append(text, word)?;
         put_list(alloc, text, maximum, sizes)?;
     }
     Ok(())
@@ -50,16 +50,16 @@ fn put_option(
 
 /// A value as it is spelled, where its text has only bytes that stand for themselves.
 fn put_value(alloc: Global, text: &mut Vec<u8>, value: &Value) -> Result<(), NoMemory> {
-    put(text, b" ")?;
+    append(text, b" ")?;
     match value {
         Value::Num(number) => match number.to_string(alloc) {
-            Ok(digits) => put(text, digits.as_bytes()),
+            Ok(digits) => append(text, digits.as_bytes()),
             Err(_) => Err(NoMemory),
         },
         Value::Text(bytes) => {
-            put(text, b"\"")?;
-            put(text, bytes.as_slice())?;
-            put(text, b"\"")
+            append(text, b"\"")?;
+            append(text, bytes.as_slice())?;
+            append(text, b"\"")
         }
     }
 }
@@ -82,7 +82,7 @@ fn spelled(alloc: Global, command: &Command) -> Result<Vec<u8>, NoMemory> {
     let text = &mut line;
     match command {
         Command::Mkgroup { path } => {
-            put(text, b"mkgroup")?;
+            append(text, b"mkgroup")?;
             put_path(text, path)?;
         }
         Command::Mkdata {
@@ -93,15 +93,15 @@ fn spelled(alloc: Global, command: &Command) -> Result<Vec<u8>, NoMemory> {
             max,
             fill,
         } => {
-            put(text, b"mkdata")?;
+            append(text, b"mkdata")?;
             put_path(text, path)?;
-            put(text, b" ")?;
+            append(text, b" ")?;
             put_type(alloc, text, elem)?;
             put_list(alloc, text, false, dims)?;
             put_option(alloc, text, b" chunk", false, chunk)?;
             put_option(alloc, text, b" max", true, max)?;
             if let Some(value) = fill {
-                put(text, b" fill")?;
+                append(text, b" fill")?;
                 put_value(alloc, text, value)?;
             }
         }
@@ -111,37 +111,37 @@ fn spelled(alloc: Global, command: &Command) -> Result<Vec<u8>, NoMemory> {
             count,
             values,
         } => {
-            put(text, b"write")?;
+            append(text, b"write")?;
             put_box(alloc, text, path, start, count)?;
             for value in values.as_slice() {
                 put_value(alloc, text, value)?;
             }
         }
         Command::Read { path, start, count } => {
-            put(text, b"read")?;
+            append(text, b"read")?;
             put_box(alloc, text, path, start, count)?;
         }
         Command::Ls { path } => {
-            put(text, b"ls")?;
+            append(text, b"ls")?;
             put_path(text, path)?;
         }
         Command::Stat { path } => {
-            put(text, b"stat")?;
+            append(text, b"stat")?;
             put_path(text, path)?;
         }
         Command::Extend { path, dims } => {
-            put(text, b"extend")?;
+            append(text, b"extend")?;
             put_path(text, path)?;
             put_list(alloc, text, false, dims)?;
         }
         Command::Rm { path } => {
-            put(text, b"rm")?;
+            append(text, b"rm")?;
             put_path(text, path)?;
         }
-        Command::Flush => put(text, b"flush")?,
+        Command::Flush => append(text, b"flush")?,
         Command::Commit { comment } => {
-            put(text, b"commit ")?;
-            put(text, comment.as_slice())?;
+            append(text, b"commit ")?;
+            append(text, comment.as_slice())?;
         }
     }
     Ok(line)

@@ -1,40 +1,19 @@
-ghost use Rattle.std.specs.Prelude.{◌≡◌, ◌<◌, ◌*◌, ◌++◌, ◌∷◌, OnOk, true};
-ghost use Rattle.std.specs.Fmt.{decimal, digit_glyph};
+ghost use Rattle.std.specs.Prelude.{◌≡◌, ◌*◌, ◌++◌, ◌∷◌, OnOk};
+ghost use Rattle.std.specs.Fmt.{decimal};
 ghost use Rattle.std.specs.List.{flat_map};
 ghost use Rattle.script.specs.Print.{is_plain_name, name_symbol, name_text, size_text, sizes_text, chunk_text, pad_text, sign_text, order_text, type_text};
 
-use dtype::{Dims, ElemType, Pad};
+use dtype::{Dims, ElemType, Pad, append, append_escape};
 use h5_base::NoMemory;
 use std::alloc::Global;
-
-/// Appends bytes.
-pub(crate) fn put(text: &mut Vec<u8>, bytes: &[u8]) -> Result<(), NoMemory>
-    ensures { OnOk result (text.new.items ≡ text.old.items ++ bytes.now) }
-{
-    match text.extend_from_slice(bytes) {
-        Ok(()) => Ok(()),
-        Err(_) => Err(NoMemory),
-    }
-}
 
 /// Appends a number's decimal digits.
 pub(crate) fn put_number(alloc: Global, text: &mut Vec<u8>, number: u64) -> Result<(), NoMemory>
     ensures { OnOk result (text.new.items ≡ text.old.items ++ decimal number) }
 {
     match number.to_string(alloc) {
-        Ok(digits) => put(text, digits.as_bytes()),
+        Ok(digits) => append(text, digits.as_bytes()),
         Err(_) => Err(NoMemory),
-    }
-}
-
-fn hex_digit(digit: u8) -> u8
-    requires { digit < 16 }
-    ensures { result ≡ digit_glyph true digit }
-{
-    if digit < 10 {
-        b'0' + digit
-    } else {
-        b'A' + (digit - 10)
     }
 }
 
@@ -49,12 +28,9 @@ fn put_symbol(text: &mut Vec<u8>, byte: u8) -> Result<(), NoMemory>
     ensures { OnOk result (text.new.items ≡ text.old.items ++ name_symbol byte) }
 {
     if is_plain(byte) {
-        put(text, &[byte])
+        append(text, &[byte])
     } else {
-        put(
-            text,
-            &[b'\\', b'x', hex_digit(byte / 16), hex_digit(byte % 16)],
-        )
+        append_escape(text, byte)
     }
 }
 
@@ -73,7 +49,7 @@ fn put_size(alloc: Global, text: &mut Vec<u8>, maximum: bool, size: u64) -> Resu
     ensures { OnOk result (text.new.items ≡ text.old.items ++ size_text maximum size) }
 {
     if maximum && size == u64::MAX {
-        put(text, b"*")
+        append(text, b"*")
     } else {
         put_number(alloc, text, size)
     }
@@ -88,7 +64,7 @@ fn put_more_sizes(
     ensures { OnOk result (text.new.items ≡ text.old.items ++ flat_map (λ m. 44 ∷ size_text maximum m) sizes.now) }
 {
     for size in sizes {
-        put(text, b",")?;
+        append(text, b",")?;
         put_size(alloc, text, maximum, *size)?;
     }
     Ok(())
@@ -104,7 +80,7 @@ pub(crate) fn put_sizes(
     ensures { OnOk result (text.new.items ≡ text.old.items ++ sizes_text maximum sizes.now) }
 {
     match sizes {
-        [] => put(text, b"-"),
+        [] => append(text, b"-"),
         [first, more @ ..] => {
             put_size(alloc, text, maximum, *first)?;
             put_more_sizes(alloc, text, maximum, more)
@@ -121,7 +97,7 @@ pub(crate) fn put_chunk(
     ensures { OnOk result (text.new.items ≡ text.old.items ++ chunk_text chunk.now) }
 {
     match chunk {
-        None => put(text, b"none"),
+        None => append(text, b"none"),
         Some(sizes) => put_sizes(alloc, text, false, sizes.as_slice()),
     }
 }
@@ -130,9 +106,9 @@ fn put_pad(text: &mut Vec<u8>, pad: Pad) -> Result<(), NoMemory>
     ensures { OnOk result (text.new.items ≡ text.old.items ++ pad_text pad) }
 {
     match pad {
-        Pad::Nul => put(text, b"str"),
-        Pad::Ended => put(text, b"strz"),
-        Pad::Space => put(text, b"strs"),
+        Pad::Nul => append(text, b"str"),
+        Pad::Ended => append(text, b"strz"),
+        Pad::Space => append(text, b"strs"),
     }
 }
 
@@ -145,7 +121,7 @@ fn put_int(
 ) -> Result<(), NoMemory>
     ensures { OnOk result (text.new.items ≡ text.old.items ++ (sign_text signed ++ decimal (8 * size) ++ order_text big)) }
 {
-    put(
+    append(
         text,
         if signed {
             b"i".as_slice()
@@ -154,7 +130,7 @@ fn put_int(
         },
     )?;
     put_number(alloc, text, 8 * u64::from(size))?;
-    put(
+    append(
         text,
         if big {
             b"be".as_slice()

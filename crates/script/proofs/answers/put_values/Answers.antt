@@ -8,5 +8,5 @@ pub loop-index-preserved : goal.loop-index-preserved
 loop-index-preserved c =
     let f : ℕ → List ℕ = λ i. 32 ∷ value_text (value_of c.args.elem_type.now (element_at c.args.elem_type.now c.args.bytes.now i)) in
     more_values f c.args.text.now.items c.loop-index.text.items _ c.loop-index.index c.loop-index.invariant
-    (rw (c.in_ok-put_value.ensures, c.in_ok-put.ensures, c.element.ensures.elem)
+    (rw (c.in_ok-put_value.ensures, c.in_ok-append.ensures.appended, c.element.ensures.elem)
     (append_assoc c.loop-index.text.items (32 ∷ []) (value_text (value_of c.args.elem_type.now (element_at c.args.elem_type.now c.args.bytes.now c.loop-index.index)))))
