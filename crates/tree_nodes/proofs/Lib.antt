@@ -1,4 +1,5 @@
 pub mod PlaceLemmas
 pub mod SlotLemmas
 pub mod EditLemmas
+pub mod ChangeLemmas
 pub mod ShownLemmas
