@@ -95,7 +95,7 @@ objects-single key n =
 
 pub ordered-single : (key : ℕ) (n : Node) → IsOrdered (single key n)
 ordered-single key n =
-    elim (is_group n) as (λ b. IsOrdered (cond b (Group (record { key = key; node = n }) Empty) (Leaf (record { key = key; node = n })))) [ true ↦ (tt, tt) | false ↦ tt ]
+    elim (is_group n) as (λ b. let t : Keyed = cond b (Group (record { key = key; node = n }) Empty) (Leaf (record { key = key; node = n })) in IsOrdered t) [ true ↦ (tt, tt) | false ↦ tt ]
 
 -- ---- one link more
 
@@ -167,3 +167,112 @@ has-with_link name new (Group x ls) k h = elim h [ inl own ↦ inl (inl own) | i
 pub objects-with_link : (name : Name) (new u : Keyed) → is_group (node_of u) ≡ true → (at : ℕ → Option Kept) → AreKept at u → objects_of (with_link name new u) ≡ objects_of u + objects_of new
 objects-with_link name new (Leaf x) isg at h = let no : is_group x.node ≡ false = h.0 in absurd cc
 objects-with_link name new (Group x ls) isg at h = let more = objects-insert ls name new in omega (arith, more)
+
+-- ---- one link fewer
+
+kept-remove : (at at' : ℕ → Option Kept) (ls : KeyedLinks) (name : Name) (v : Keyed) → find ls name ≡ Some v → AreKeptBelow at ls → AreDistinctBelow ls → ((k : ℕ) → HasKeyBelow ls k → (HasKey v k → ⊥) → at' k ≡ at k) → AreKeptBelow at' (remove ls name)
+kept-remove at at' Empty name v is h d same = tt
+kept-remove at at' (Link m t rest) name v is h d same =
+    (elim (same_name m name) as (λ b. cond b (Some t) (find rest name) ≡ Some v → AreKeptBelow at' (cond b rest (Link m t (remove rest name)))) [
+      | true ↦ λ q.
+          let here : v ≡ t = cc in
+          kept_same_below at at' rest (λ k has. same k (inr has) (λ inside. d.2 k (subst (λ (y : Keyed). HasKey y k) here inside) has)) h.1
+      | false ↦ λ q.
+          (kept_same at at' t (λ k has. same k (inl has) (λ inside. d.2 k has (found_key rest name v k q inside))) h.0, kept-remove at at' rest name v q h.1 d.1 (λ k has. same k (inr has)))
+    ]) is
+
+removed_key : (ls : KeyedLinks) (name : Name) (k : ℕ) → HasKeyBelow (remove ls name) k → HasKeyBelow ls k
+removed_key Empty name k h = h
+removed_key (Link m t rest) name k h =
+    (elim (same_name m name) as (λ b. HasKeyBelow (cond b rest (Link m t (remove rest name))) k → HasKeyBelow (Link m t rest) k) [
+      | true ↦ λ l. inr l
+      | false ↦ λ l. elim l [ inl a ↦ inl a | inr b ↦ inr (removed_key rest name k b) ]
+    ]) h
+
+distinct-remove : (ls : KeyedLinks) (name : Name) → AreDistinctBelow ls → AreDistinctBelow (remove ls name)
+distinct-remove Empty name d = tt
+distinct-remove (Link m t rest) name d =
+    elim (same_name m name) as (λ b. AreDistinctBelow (cond b rest (Link m t (remove rest name)))) [
+      | true ↦ d.1
+      | false ↦ (d.0, distinct-remove rest name d.1, λ k a b. d.2 k a (removed_key rest name k b))
+    ]
+
+objects-remove : (ls : KeyedLinks) (name : Name) (v : Keyed) → find ls name ≡ Some v → objects_below (remove ls name) + objects_of v ≡ objects_below ls
+objects-remove Empty name v is = absurd cc
+objects-remove (Link m t rest) name v is =
+    (elim (same_name m name) as (λ b. cond b (Some t) (find rest name) ≡ Some v → objects_below (cond b rest (Link m t (remove rest name))) + objects_of v ≡ objects_of t + objects_below rest) [
+      | true ↦ λ q.
+          let here : t ≡ v = cc in
+          let old : objects_of t ≡ objects_of v = ap objects_of here in
+          omega (arith, old)
+      | false ↦ λ q. let later = objects-remove rest name v q in omega (arith, later)
+    ]) is
+
+abbrev pub without_link : Name → Keyed → Keyed
+without_link name u = relink (λ ls. remove ls name) u
+
+pub kept-without_link : (at at' : ℕ → Option Kept) (name : Name) (x : Placed) (ls : KeyedLinks) (v : Keyed) → find ls name ≡ Some v → AreKept at (Group x ls) → AreDistinct (Group x ls)
+    → at' x.key ≡ Some (record { node = x.node; links = remove_link (child_links ls) name }) → ((k : ℕ) → k ≢ x.key → k ≢ key_of v → at' k ≡ at k) → AreKept at' (without_link name (Group x ls))
+kept-without_link at at' name x ls v is h d linked others =
+    (
+      h.0,
+      linked ∙ ap (λ (l : List ChildLink). Some (record { node = x.node; links = l })) (sym (links-remove ls name)),
+      kept-remove at at' ls name v is h.2 d.1 (λ k has apart. others k (λ same. d.0 (subst (HasKeyBelow ls) same has)) (λ same. apart (subst (HasKey v) (sym same) (own_key v)))),
+    )
+
+pub distinct-without_link : (name : Name) (x : Placed) (ls : KeyedLinks) → AreDistinct (Group x ls) → AreDistinct (without_link name (Group x ls))
+distinct-without_link name x ls d = (λ below. d.0 (removed_key ls name x.key below), distinct-remove ls name d.1)
+
+pub has-without_link : (name : Name) (x : Placed) (ls : KeyedLinks) (k : ℕ) → HasKey (without_link name (Group x ls)) k → HasKey (Group x ls) k
+has-without_link name x ls k h = elim h [ inl own ↦ inl own | inr below ↦ inr (removed_key ls name k below) ]
+
+pub objects-without_link : (name : Name) (x : Placed) (ls : KeyedLinks) (v : Keyed) → find ls name ≡ Some v → objects_of (without_link name (Group x ls)) + objects_of v ≡ objects_of (Group x ls)
+objects-without_link name x ls v is = let fewer = objects-remove ls name v is in omega (arith, fewer)
+
+-- a node without links
+pub objects_loose : (v : Keyed) → links_of v ≡ [] → objects_of v ≡ objects_at (node_of v)
+objects_loose (Group y Empty) none = omega arith
+objects_loose (Group y (Link n t rest)) none = absurd cc
+objects_loose (Leaf y) none = refl
+
+-- the node behind a name that is found
+pub found_child : (u : Keyed) (name : Name) (child : NodeId) → child_id u name ≡ Some child → (x : Placed) × (ls : KeyedLinks) × (v : Keyed) × (u ≡ Group x ls) × (find ls name ≡ Some v) × (key_of v ≡ child.key)
+found_child (Leaf x) name child is = absurd cc
+found_child (Group x ls) name child is = go (find ls name) refl is
+  where
+    go : (o : Option Keyed) → find ls name ≡ o → option_map (λ u. record { key = key_of u }) o ≡ Some child → (y : Placed) × (ms : KeyedLinks) × (v : Keyed) × (Group x ls ≡ Group y ms) × (find ms name ≡ Some v) × (key_of v ≡ child.key)
+    go None e h = absurd cc
+    go (Some v) e h = let same : record { key = key_of v } ≡ child = cc in (x, ls, v, refl, e, ap (λ (i : NodeId). i.key) same)
+
+-- ---- another node at a leaf
+
+pub key-on_leaf : (f : Node → Node) (u : Keyed) → key_of (on_leaf f u) ≡ key_of u
+key-on_leaf f (Group x ls) = refl
+key-on_leaf f (Leaf x) = refl
+
+pub has-on_leaf : (f : Node → Node) (u : Keyed) (k : ℕ) → HasKey (on_leaf f u) k → HasKey u k
+has-on_leaf f (Group x ls) k h = h
+has-on_leaf f (Leaf x) k h = h
+
+pub kept-on_leaf : (at at' : ℕ → Option Kept) (f : Node → Node) (u : Keyed) → is_group (node_of u) ≡ false → is_group (f (node_of u)) ≡ false → AreKept at u
+    → at' (key_of u) ≡ Some (record { node = f (node_of u); links = links_of u }) → AreKept at' (on_leaf f u)
+kept-on_leaf at at' f (Group x ls) isg isg' h is = let yes_group : is_group x.node ≡ true = h.0 in absurd cc
+kept-on_leaf at at' f (Leaf x) isg isg' h is = (isg', is)
+
+pub distinct-on_leaf : (f : Node → Node) (u : Keyed) → AreDistinct u → AreDistinct (on_leaf f u)
+distinct-on_leaf f (Group x ls) d = d
+distinct-on_leaf f (Leaf x) d = tt
+
+pub objects-on_leaf : (f : Node → Node) (u : Keyed) → objects_at (f (node_of u)) ≡ objects_at (node_of u) → objects_of (on_leaf f u) ≡ objects_of u
+objects-on_leaf f (Group x ls) same = refl
+objects-on_leaf f (Leaf x) same = same
+
+pub ordered-on_leaf : (f : Node → Node) (u : Keyed) → IsOrdered u → IsOrdered (on_leaf f u)
+ordered-on_leaf f (Group x ls) o = o
+ordered-on_leaf f (Leaf x) o = tt
+
+pub dataset_no_group : (n : Node) → is_dataset n ≡ true → is_group n ≡ false
+dataset_no_group (node.Group header tree heap) is = absurd cc
+dataset_no_group (node.Dataset header shape elem fill layout filtered) is = refl
+dataset_no_group (node.Soft text) is = refl
+dataset_no_group (node.Other header) is = refl

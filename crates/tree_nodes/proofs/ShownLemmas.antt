@@ -1,1 +1,174 @@
--- x
+-- What an object tree shows, before and after a call.
+use Rattle.std.proofs.Common.{◌≡◌, ◌≢◌, ℕ, ◌+◌, Bool, true, false, cond, List, [], ◌∷◌, Option, Some, None, Result, Ok, refl, sym, ap, ◌∙◌, subst, inl, inr, ◌⊎◌, arith}
+use mir.Val.{bool_byte}
+use Rattle.slab.specs.Slab.{Slab, get, HasRoomFor}
+use Rattle.object_model.specs.declared.answer.Code.{Code}
+use Rattle.object_model.specs.Tree.{Group, Leaf, Empty, Link, Name, same_name, walk, edit, relink, insert, remove, find, AreOrdered, AreOrderedBelow, IsOrdered}
+use Rattle.object_model.proofs.OrderLemmas.{ordered-edit, ordered-add, ordered-remove_link}
+use Rattle.tree_nodes.specs.declared.node.Node.{Node}
+use Rattle.tree_nodes.specs.declared.node.NodeId.{NodeId}
+use Rattle.tree_nodes.specs.declared.entry.Entry.{Entry}
+use Rattle.tree_nodes.specs.declared.tree.ObjectTree.{ObjectTree}
+use Rattle.tree_nodes.specs.Nodes.{Kept, bare, is_group, is_dataset, objects_at, child_link, link_names, find_link, insert_link, remove_link}
+use Rattle.tree_nodes.specs.Slots.{kept_in, IsRoomy, IsRoomyAt}
+use Rattle.tree_nodes.specs.Entries.{root_of, object_count, superblock_of, entry_of, LacksLink, HasLooseLink, HasDataset, HasRoom, Same, Inserts, Removes, Sets}
+use Rattle.tree_nodes.specs.Shown.{Placed, Keyed, KeyedLinks, Shows, key_of, node_of, single, child_links, links_of, kept_of, child_id, on_leaf, objects_of, HasKey, AreDistinct, AreKept}
+use Rattle.std.specs.Option.{option_map}
+use Rattle.tree_nodes.proofs.SlotLemmas.{kept_get}
+use Rattle.tree_nodes.proofs.SlotLemmas as Slots
+use Rattle.tree_nodes.proofs.EditLemmas.{first_step, own_key, found_key, walked_key, key-edit, kept_same, kept_found, kept_edit, kept_walked, distinct_edit, distinct_walked, objects-edit}
+use Rattle.tree_nodes.proofs.ChangeLemmas.{kept_first, kept_key, ordered_links, child-links, key-single, has-single, kept-single, distinct-single, objects-single, ordered-single, with_link, key-with_link, kept-with_link, distinct-with_link, has-with_link, objects-with_link, without_link, kept-without_link, distinct-without_link, has-without_link, objects-without_link, objects_loose, found_child, key-on_leaf, has-on_leaf, kept-on_leaf, distinct-on_leaf, objects-on_leaf, ordered-on_leaf, dataset_no_group}
+
+-- ---- what is shown of a node
+
+pub entry_shown : (kept : ObjectTree) (t u : Keyed) (p : List Name) → Shows kept t → walk t p ≡ Ok u → entry_of kept (key_of u) ≡ Some (kept_of u)
+entry_shown kept t u p shows w = kept_first (entry_of kept) u (kept_walked (entry_of kept) p t u w shows.nodes)
+
+ordered_found : (ls : KeyedLinks) (n : Name) (v : Keyed) → find ls n ≡ Some v → AreOrderedBelow ls → IsOrdered v
+ordered_found Empty n v is o = absurd cc
+ordered_found (Link m t rest) n v is o =
+    (elim (same_name m n) as (λ b. cond b (Some t) (find rest n) ≡ Some v → IsOrdered v) [
+      | true ↦ λ q. let here : t ≡ v = cc in subst (λ (y : Keyed). IsOrdered y) here o.0
+      | false ↦ λ q. ordered_found rest n v q o.1
+    ]) is
+
+walked_ordered : (p : List Name) (t u : Keyed) → walk t p ≡ Ok u → IsOrdered t → IsOrdered u
+walked_ordered [] t u w o = let here : t ≡ u = cc in subst (λ (y : Keyed). IsOrdered y) here o
+walked_ordered (n ∷ ns) (Leaf x) u w o = absurd cc
+walked_ordered (n ∷ ns) (Group x ls) u w o = let (v, is, next) = first_step x ls n ns u w in walked_ordered ns v u next (ordered_found ls n v is o.1)
+
+-- what holds of what is kept under a key holds of the tree's node there
+pub of_shown : (kept : ObjectTree) (key : ℕ) (Q : Kept → Type 0) → ((e : Kept) → entry_of kept key ≡ Some e → Q e) → (t u : Keyed) (p : List Name) → Shows kept t → walk t p ≡ Ok u → key_of u ≡ key → Q (kept_of u)
+of_shown kept key Q q t u p shows w same = q (kept_of u) (ap (entry_of kept) (sym same) ∙ entry_shown kept t u p shows w)
+
+pub of_shown_ordered : (kept : ObjectTree) (key : ℕ) (Q : Kept → Type 0) → ((e : Kept) → entry_of kept key ≡ Some e → AreOrdered (link_names e.links) → Q e) → (t u : Keyed) (p : List Name) → Shows kept t → walk t p ≡ Ok u → key_of u ≡ key → Q (kept_of u)
+of_shown_ordered kept key Q q t u p shows w same = q (kept_of u) (ap (entry_of kept) (sym same) ∙ entry_shown kept t u p shows w) (ordered_links u (walked_ordered p t u w shows.ordered))
+
+-- ---- entries
+
+entries_in : (kept : ObjectTree) (k : ℕ) → entry_of kept k ≡ kept_in kept.nodes k
+unfolding entry_of
+entries_in kept k = refl
+
+pub same_entry : (old new : ObjectTree) (k : ℕ) → kept_in new.nodes k ≡ kept_in old.nodes k → entry_of new k ≡ entry_of old k
+unfolding entry_of
+same_entry old new k same = same
+
+pub entry_is : (kept : ObjectTree) (k : ℕ) (o : Option Kept) → kept_in kept.nodes k ≡ o → entry_of kept k ≡ o
+unfolding entry_of
+entry_is kept k o is = is
+
+pub in_entry : (kept : ObjectTree) (k : ℕ) (o : Option Kept) → entry_of kept k ≡ o → kept_in kept.nodes k ≡ o
+unfolding entry_of
+in_entry kept k o is = is
+
+-- ---- nothing changes
+
+pub shows_same : (old new : ObjectTree) → Same old new → (t : Keyed) → Shows old t → Shows new t
+shows_same old new same t shows = record {
+  root = shows.root ∙ ap (λ (i : NodeId). i.key) (sym same.root);
+  nodes = kept_same (entry_of old) (entry_of new) t (λ k _. same.entries k) shows.nodes;
+  ordered = shows.ordered;
+  distinct = shows.distinct;
+  objects = shows.objects ∙ sym same.objects;
+}
+
+-- ---- a node more
+
+pub inserts : (old new : ObjectTree) (mid : Slab Entry) (id : NodeId) (name : Name) (key : ℕ) (n : Node)
+    → superblock_of new ≡ superblock_of old → root_of new ≡ root_of old → object_count new ≡ object_count old + objects_at n
+    → get old.nodes key ≡ None → kept_in mid key ≡ Some (bare n) → ((k : ℕ) → k ≢ key → get mid k ≡ get old.nodes k)
+    → ((e : Kept) → kept_in mid id.key ≡ Some e → AreOrdered (link_names e.links) → find_link e.links name ≡ None → kept_in new.nodes id.key ≡ Some (record { node = e.node; links = insert_link e.links (child_link name key) }))
+    → ((k : ℕ) → k ≢ id.key → kept_in new.nodes k ≡ kept_in mid k)
+    → LacksLink old id name → (e : Kept) → entry_of old id.key ≡ Some e → AreOrdered (link_names e.links) → Inserts old new id.key name key n
+inserts old new mid id name key n superblock root objects fresh made beside linked others lacks e is o =
+    let vacant : entry_of old key ≡ None = entry_is old key None (kept_get old.nodes key None fresh) in
+    let apart : id.key ≢ key = λ same. let both : Some e ≡ None = sym is ∙ ap (entry_of old) same ∙ vacant in absurd cc in
+    let group : kept_in mid id.key ≡ Some e = Slots.kept_same old.nodes mid id.key id.key (beside id.key apart) ∙ in_entry old id.key (Some e) is in
+    let same : lacks.0 ≡ e = let both : Some lacks.0 ≡ Some e = sym lacks.1 ∙ is in cc in
+    let none : find_link e.links name ≡ None = subst (λ (x : Kept). find_link x.links name ≡ None) same lacks.3 in
+    record {
+      superblock = superblock;
+      root = root;
+      fresh = vacant;
+      made = entry_is new key (Some (bare n)) (others key (λ x. apart (sym x)) ∙ made);
+      linked = λ f at.
+          let one : e ≡ f = let both : Some e ≡ Some f = sym is ∙ at in cc in
+          entry_is new id.key _ (subst (λ (x : Kept). kept_in new.nodes id.key ≡ Some (record { node = x.node; links = insert_link x.links (child_link name key) })) one (linked e group o none));
+      others = λ k not_id not_key. entry_is new k _ (others k not_id ∙ Slots.kept_same old.nodes mid k k (beside k not_key)) ∙ sym (entries_in old k);
+      objects = objects;
+    }
+
+abbrev okay : Keyed → Result Keyed Code
+okay t = Ok t
+
+ok_is : (t u : Keyed) → okay t ≡ okay u → t ≡ u
+ok_is t u h = cc
+
+abbrev id_of : Keyed → NodeId
+id_of y = record { key = key_of y }
+
+no_child : (r : Option Keyed) → option_map id_of r ≡ None → r ≡ None
+no_child None q = refl
+no_child (Some y) q = absurd cc
+
+same_walk : (t v u : Keyed) (p : List Name) → walk t p ≡ Ok v → walk t p ≡ Ok u → v ≡ u
+same_walk t v u p a b = ok_is v u (sym a ∙ b)
+
+ordered_link : (name : Name) (key : ℕ) (n : Node) (v u : Keyed) → v ≡ u → child_id u name ≡ None → IsOrdered v → IsOrdered (with_link name (single key n) v)
+ordered_link name key n (Leaf x) u is none o = tt
+ordered_link name key n (Group x ls) u is none o = ordered-add name (single key n) (Group x ls) x ls refl (no_child (find ls name) (subst (λ (y : Keyed). child_id y name ≡ None) (sym is) none)) (ordered-single key n) o
+
+shows_link : (old new : ObjectTree) (id : NodeId) (name : Name) (key : ℕ) (n : Node) (t u : Keyed) (p : List Name) → Shows old t → walk t p ≡ Ok u → key_of u ≡ id.key
+    → is_group (node_of u) ≡ true → child_id u name ≡ None → Inserts old new id.key name key n → Shows new (edit p (with_link name (single key n)) t)
+shows_link old new id name key n t u p shows w same isg none ins =
+    let f = with_link name (single key n) in
+    let kept : AreKept (entry_of old) u = kept_walked (entry_of old) p t u w shows.nodes in
+    let distinct : AreDistinct u = distinct_walked p t u w shows.distinct in
+    let entry : entry_of old id.key ≡ Some (kept_of u) = ap (entry_of old) (sym same) ∙ entry_shown old t u p shows w in
+    let linked : entry_of new (key_of u) ≡ Some (record { node = node_of u; links = insert_link (links_of u) (child_link name key) }) = ap (entry_of new) same ∙ ins.linked (kept_of u) entry in
+    let strange : (k : ℕ) → HasKey t k → k ≢ key = λ k has x. kept_key (entry_of old) t k shows.nodes has (ap (entry_of old) x ∙ ins.fresh) in
+    let others : (k : ℕ) → HasKey t k → k ≢ key_of u → entry_of new k ≡ entry_of old k = λ k has apart. ins.others k (λ x. apart (x ∙ sym same)) (strange k has) in
+    let unknown : (k : ℕ) → HasKey (single key n) k → HasKey t k → ⊥ = λ k a b. strange k b (sym (has-single key n k a)) in
+    let inner = kept-with_link (entry_of old) (entry_of new) name key n u isg kept distinct ins.made linked (λ k has. others k (walked_key p t u k w has)) in
+    let sums = objects-edit f p t u w in
+    let more = objects-with_link name (single key n) u isg (entry_of old) kept in
+    let one = objects-single key n in
+    let counted = shows.objects in
+    let grown = ins.objects in
+    record {
+      root = key-edit p f t u w (key-with_link name (single key n) u) ∙ shows.root ∙ ap (λ (i : NodeId). i.key) (sym ins.root);
+      nodes = kept_edit (entry_of old) (entry_of new) f p t u w shows.nodes shows.distinct (key-with_link name (single key n) u) inner (λ k has apart. others k has (λ x. apart (subst (HasKey u) (sym x) (own_key u))));
+      ordered = ordered-edit p f t (λ v leads o. ordered_link name key n v u (same_walk t v u p leads w) none o) shows.ordered;
+      distinct = distinct_edit f p t u w shows.distinct (distinct-with_link name (single key n) u distinct (distinct-single key n) (λ k a b. unknown k a (walked_key p t u k w b)))
+          (λ k a. elim (has-with_link name (single key n) u k a) [ inl old_key ↦ inl old_key | inr new_key ↦ inr (unknown k new_key) ]);
+      objects = omega (arith, sums, more, one, counted, grown);
+    }
+
+pub shows_inserts : (old new : ObjectTree) (id : NodeId) (name : Name) (key : ℕ) (n : Node) → LacksLink old id name → ((e : Kept) → entry_of old id.key ≡ Some e → AreOrdered (link_names e.links) → Inserts old new id.key name key n)
+    → (t u : Keyed) (p : List Name) → Shows old t → walk t p ≡ Ok u → key_of u ≡ id.key → Shows new (edit p (relink (λ ls. insert ls name (single key n))) t)
+shows_inserts old new id name key n lacks ins t u p shows w same =
+    let entry : entry_of old id.key ≡ Some (kept_of u) = ap (entry_of old) (sym same) ∙ entry_shown old t u p shows w in
+    let is : lacks.0 ≡ kept_of u = let both : Some lacks.0 ≡ Some (kept_of u) = sym lacks.1 ∙ entry in cc in
+    let isg : is_group (node_of u) ≡ true = subst (λ (x : Kept). is_group x.node ≡ true) is lacks.2 in
+    let none : child_id u name ≡ None = sym (child-links u name) ∙ subst (λ (x : Kept). find_link x.links name ≡ None) is lacks.3 in
+    shows_link old new id name key n t u p shows w same isg none (of_shown_ordered old id.key (λ e. Inserts old new id.key name key n) ins t u p shows w same)
+
+-- ---- room
+
+pub room_node : (kept : ObjectTree) (id : NodeId) → HasRoom kept id → HasRoomFor kept.nodes 1
+unfolding HasRoom
+room_node kept id room = room.node
+
+pub room_link : (kept : ObjectTree) (id : NodeId) (mid : Slab Entry) (key : ℕ) (name : Name) → HasRoom kept id → LacksLink kept id name → get kept.nodes key ≡ None → ((k : ℕ) → k ≢ key → get mid k ≡ get kept.nodes k) → IsRoomy (get mid id.key)
+unfolding HasRoom
+room_link kept id mid key name room lacks fresh beside =
+    let apart : id.key ≢ key = λ same. let both : Some lacks.0 ≡ None = sym lacks.1 ∙ ap (entry_of kept) same ∙ entry_is kept key None (kept_get kept.nodes key None fresh) in absurd cc in
+    subst IsRoomy (sym (beside id.key apart)) room.link
+
+pub has_room : (kept : ObjectTree) (id : NodeId) → IsRoomyAt kept.nodes id.key → HasRoom kept id
+unfolding HasRoom
+has_room kept id room = room
+
+pub byte_is : (b c : Bool) → b ≡ c → bool_byte b ≡ cond c 1 0
+byte_is b c same = subst (λ (x : Bool). bool_byte b ≡ cond x 1 0) same (elim b as (λ x. bool_byte x ≡ cond x 1 0) [ true ↦ refl | false ↦ refl ])
