@@ -1,5 +1,6 @@
 -- What an object tree shows, before and after a call.
 use Rattle.std.proofs.Common.{◌≡◌, ◌≢◌, ℕ, ◌+◌, Bool, true, false, cond, List, [], ◌∷◌, Option, Some, None, Result, Ok, refl, sym, ap, ◌∙◌, subst, inl, inr, ◌⊎◌, arith}
+use Rattle.std.specs.Prelude.{IsSome}
 use mir.Val.{bool_byte}
 use Rattle.slab.specs.Slab.{Slab, get, HasRoomFor}
 use Rattle.object_model.specs.declared.answer.Code.{Code}
@@ -11,10 +12,10 @@ use Rattle.tree_nodes.specs.declared.entry.Entry.{Entry}
 use Rattle.tree_nodes.specs.declared.tree.ObjectTree.{ObjectTree}
 use Rattle.tree_nodes.specs.Nodes.{Kept, bare, is_group, is_dataset, objects_at, child_link, link_names, find_link, insert_link, remove_link}
 use Rattle.tree_nodes.specs.Slots.{kept_in, IsRoomy, IsRoomyAt}
-use Rattle.tree_nodes.specs.Entries.{root_of, object_count, superblock_of, entry_of, LacksLink, HasLooseLink, HasDataset, HasRoom, Same, Inserts, Removes, Sets}
+use Rattle.tree_nodes.specs.Entries.{root_of, object_count, superblock_of, entry_of, LacksLink, HasLooseLink, Has, HasDataset, HasRoom, Same, Inserts, Removes, Sets}
 use Rattle.tree_nodes.specs.Shown.{Placed, Keyed, KeyedLinks, Shows, key_of, node_of, single, child_links, links_of, kept_of, child_id, on_leaf, objects_of, HasKey, AreDistinct, AreKept}
 use Rattle.std.specs.Option.{option_map}
-use Rattle.tree_nodes.proofs.SlotLemmas.{kept_get}
+use Rattle.tree_nodes.proofs.SlotLemmas.{kept_get, entry_kept}
 use Rattle.tree_nodes.proofs.SlotLemmas as Slots
 use Rattle.tree_nodes.proofs.EditLemmas.{first_step, own_key, found_key, walked_key, key-edit, kept_same, kept_found, kept_edit, kept_walked, distinct_edit, distinct_walked, objects-edit}
 use Rattle.tree_nodes.proofs.ChangeLemmas.{kept_first, kept_key, ordered_links, child-links, key-single, has-single, kept-single, distinct-single, objects-single, ordered-single, with_link, key-with_link, kept-with_link, distinct-with_link, has-with_link, objects-with_link, without_link, kept-without_link, distinct-without_link, has-without_link, objects-without_link, objects_loose, found_child, key-on_leaf, has-on_leaf, kept-on_leaf, distinct-on_leaf, objects-on_leaf, ordered-on_leaf, dataset_no_group}
@@ -172,3 +173,24 @@ has_room kept id room = room
 
 pub byte_is : (b c : Bool) → b ≡ c → bool_byte b ≡ cond c 1 0
 byte_is b c same = subst (λ (x : Bool). bool_byte b ≡ cond x 1 0) same (elim b as (λ x. bool_byte x ≡ cond x 1 0) [ true ↦ refl | false ↦ refl ])
+
+pub no_entry : (kept : ObjectTree) (id : NodeId) → Has kept id → get kept.nodes id.key ≡ None → ⊥
+no_entry kept id has none =
+    let gone : entry_of kept id.key ≡ None = entry_is kept id.key None (kept_get kept.nodes id.key None none) in
+    let both : IsSome {T = Kept} None = subst (λ (o : Option Kept). IsSome o) gone has in
+    cc
+
+pub entry_got : (kept : ObjectTree) (key : ℕ) (d : Entry) → get kept.nodes key ≡ Some d → entry_of kept key ≡ Some (entry_kept d)
+entry_got kept key d is = entry_is kept key (Some (entry_kept d)) (kept_get kept.nodes key (Some d) is)
+
+pub child_shown : (kept : ObjectTree) (id : NodeId) (name : Name) (r : Option NodeId) → ((e : Kept) → entry_of kept id.key ≡ Some e → AreOrdered (link_names e.links) → r ≡ find_link e.links name)
+    → (t u : Keyed) (p : List Name) → Shows kept t → walk t p ≡ Ok u → key_of u ≡ id.key → r ≡ child_id u name
+child_shown kept id name r look t u p shows w same = of_shown_ordered kept id.key (λ e. r ≡ find_link e.links name) look t u p shows w same ∙ child-links u name
+
+pub same_tree : (old new : ObjectTree) → superblock_of new ≡ superblock_of old → root_of new ≡ root_of old → object_count new ≡ object_count old → ((k : ℕ) → kept_in new.nodes k ≡ kept_in old.nodes k) → Same old new
+same_tree old new superblock root objects kept = record {
+  superblock = superblock;
+  root = root;
+  entries = λ k. same_entry old new k (kept k);
+  objects = objects;
+}
