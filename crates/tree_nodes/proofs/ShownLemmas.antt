@@ -1,5 +1,5 @@
 -- What an object tree shows, before and after a call.
-use Rattle.std.proofs.Common.{◌≡◌, ◌≢◌, ℕ, ◌+◌, Bool, true, false, cond, List, [], ◌∷◌, Option, Some, None, Result, Ok, refl, sym, ap, ◌∙◌, subst, inl, inr, ◌⊎◌, arith}
+use Rattle.std.proofs.Common.{◌≡◌, ◌≢◌, ℕ, ◌+◌, ◌-◌, Bool, true, false, cond, List, [], ◌∷◌, Option, Some, None, Result, Ok, refl, sym, ap, ◌∙◌, subst, inl, inr, ◌⊎◌, arith}
 use Rattle.std.specs.Prelude.{IsSome}
 use mir.Val.{bool_byte}
 use Rattle.slab.specs.Slab.{Slab, get, HasRoomFor}
@@ -10,7 +10,7 @@ use Rattle.tree_nodes.specs.declared.node.Node.{Node}
 use Rattle.tree_nodes.specs.declared.node.NodeId.{NodeId}
 use Rattle.tree_nodes.specs.declared.entry.Entry.{Entry}
 use Rattle.tree_nodes.specs.declared.tree.ObjectTree.{ObjectTree}
-use Rattle.tree_nodes.specs.Nodes.{Kept, bare, is_group, is_dataset, objects_at, child_link, link_names, find_link, insert_link, remove_link}
+use Rattle.tree_nodes.specs.Nodes.{Kept, bare, is_group, is_dataset, is_object, objects_at, child_link, link_names, find_link, insert_link, remove_link}
 use Rattle.tree_nodes.specs.Slots.{kept_in, IsRoomy, IsRoomyAt}
 use Rattle.tree_nodes.specs.Entries.{root_of, object_count, superblock_of, entry_of, LacksLink, HasLooseLink, Has, HasDataset, HasRoom, Same, Inserts, Removes, Sets}
 use Rattle.tree_nodes.specs.Shown.{Placed, Keyed, KeyedLinks, Shows, key_of, node_of, single, child_links, links_of, kept_of, child_id, on_leaf, objects_of, HasKey, AreDistinct, AreKept}
@@ -194,3 +194,128 @@ same_tree old new superblock root objects kept = record {
   entries = λ k. same_entry old new k (kept k);
   objects = objects;
 }
+
+-- ---- a node fewer
+
+shows_unlink : (old new : ObjectTree) (id : NodeId) (name : Name) (t : Keyed) (p : List Name) (x : Placed) (ls : KeyedLinks) (v : Keyed) → Shows old t → walk t p ≡ Ok (Group x ls) → x.key ≡ id.key
+    → find ls name ≡ Some v → links_of v ≡ [] → Removes old new id.key name (key_of v) → Shows new (edit p (without_link name) t)
+shows_unlink old new id name t p x ls v shows w same is none rem =
+    let u = Group x ls in
+    let f = without_link name in
+    let kept : AreKept (entry_of old) u = kept_walked (entry_of old) p t u w shows.nodes in
+    let distinct : AreDistinct u = distinct_walked p t u w shows.distinct in
+    let entry : entry_of old id.key ≡ Some (kept_of u) = ap (entry_of old) (sym same) ∙ entry_shown old t u p shows w in
+    let linked : entry_of new x.key ≡ Some (record { node = x.node; links = remove_link (child_links ls) name }) = ap (entry_of new) same ∙ rem.linked (kept_of u) entry in
+    let others : (k : ℕ) → k ≢ x.key → k ≢ key_of v → entry_of new k ≡ entry_of old k = λ k a b. rem.others k (λ e. a (e ∙ sym same)) b in
+    let child : HasKey u (key_of v) = inr (found_key ls name v (key_of v) is (own_key v)) in
+    let inner = kept-without_link (entry_of old) (entry_of new) name x ls v is kept distinct linked others in
+    let sums = objects-edit f p t u w in
+    let fewer = objects-without_link name x ls v is in
+    let loose = objects_loose v none in
+    let counted = shows.objects in
+    let left = rem.objects (kept_of v) (kept_first (entry_of old) v (kept_found (entry_of old) ls name v is kept.2)) in
+    record {
+      root = key-edit p f t u w refl ∙ shows.root ∙ ap (λ (i : NodeId). i.key) (sym rem.root);
+      nodes = kept_edit (entry_of old) (entry_of new) f p t u w shows.nodes shows.distinct refl inner
+          (λ k has apart. others k (λ e. apart (inl (sym e))) (λ e. apart (subst (HasKey u) (sym e) child)));
+      ordered = ordered-edit p f t (λ y leads o. ordered-remove_link name y o) shows.ordered;
+      distinct = distinct_edit f p t u w shows.distinct (distinct-without_link name x ls distinct) (λ k a. inl (has-without_link name x ls k a));
+      objects = omega (arith, sums, fewer, loose, counted, left);
+    }
+
+pub shows_removes : (old new : ObjectTree) (id : NodeId) (name : Name) → HasLooseLink old id name
+    → ((e : Kept) (child : NodeId) → entry_of old id.key ≡ Some e → AreOrdered (link_names e.links) → find_link e.links name ≡ Some child → Removes old new id.key name child.key)
+    → (t u : Keyed) (p : List Name) → Shows old t → walk t p ≡ Ok u → key_of u ≡ id.key → Shows new (edit p (relink (λ ls. remove ls name)) t)
+shows_removes old new id name has rem t u p shows w same =
+    let entry : entry_of old id.key ≡ Some (kept_of u) = ap (entry_of old) (sym same) ∙ entry_shown old t u p shows w in
+    let is : has.group ≡ kept_of u = let both : Some has.group ≡ Some (kept_of u) = sym has.at ∙ entry in cc in
+    let found : find_link (links_of u) name ≡ Some has.child = subst (λ (e : Kept). find_link e.links name ≡ Some has.child) is has.found in
+    let (x, ls, v, group, leads, key) = found_child u name has.child (sym (child-links u name) ∙ found) in
+    let w' : walk t p ≡ Ok (Group x ls) = w ∙ ap (λ (y : Keyed). okay y) group in
+    let same' : x.key ≡ id.key = ap key_of (sym group) ∙ same in
+    let kept : AreKept (entry_of old) (Group x ls) = kept_walked (entry_of old) p t (Group x ls) w' shows.nodes in
+    let there : entry_of old (key_of v) ≡ Some (kept_of v) = kept_first (entry_of old) v (kept_found (entry_of old) ls name v leads kept.2) in
+    let both : Some (bare has.node) ≡ Some (kept_of v) = sym has.loose ∙ ap (entry_of old) (sym key) ∙ there in
+    let loose : bare has.node ≡ kept_of v = cc in
+    let removes : Removes old new id.key name has.child.key = rem (kept_of u) has.child entry (ordered_links u (walked_ordered p t u w shows.ordered)) found in
+    shows_unlink old new id name t p x ls v shows w' same' leads (sym (ap (λ (e : Kept). e.links) loose)) (subst (Removes old new id.key name) (sym key) removes)
+
+pub removes : (old new : ObjectTree) (mid : Slab Entry) (id : NodeId) (name : Name) (r : NodeId) (b : Bool) → HasLooseLink old id name
+    → superblock_of new ≡ superblock_of old → root_of new ≡ root_of old → object_count new + cond b 1 0 ≡ object_count old
+    → ((e : Kept) → kept_in old.nodes id.key ≡ Some e → AreOrdered (link_names e.links) → Some r ≡ find_link e.links name)
+    → ((e : Kept) → kept_in old.nodes id.key ≡ Some e → AreOrdered (link_names e.links) → kept_in mid id.key ≡ Some (record { node = e.node; links = remove_link e.links name }))
+    → ((k : ℕ) → k ≢ id.key → kept_in mid k ≡ kept_in old.nodes k)
+    → kept_in new.nodes r.key ≡ None → ((k : ℕ) → k ≢ r.key → kept_in new.nodes k ≡ kept_in mid k) → ((e : Kept) → kept_in mid r.key ≡ Some e → b ≡ is_object e.node)
+    → (e : Kept) (child : NodeId) → entry_of old id.key ≡ Some e → AreOrdered (link_names e.links) → find_link e.links name ≡ Some child → Removes old new id.key name child.key
+removes old new mid id name r b has superblock root objects found unlinked beside gone others was e child is o leads =
+    let here : kept_in old.nodes id.key ≡ Some e = in_entry old id.key (Some e) is in
+    let met : Some r ≡ Some child = found e here o ∙ leads in
+    let same : r ≡ child = cc in
+    let one : has.group ≡ e = let both : Some has.group ≡ Some e = sym has.at ∙ is in cc in
+    let other : Some has.child ≡ Some r = sym has.found ∙ ap (λ (x : Kept). find_link x.links name) one ∙ leads ∙ sym met in
+    let chosen : has.child ≡ r = cc in
+    let loose : entry_of old r.key ≡ Some (bare has.node) = ap (λ (i : NodeId). entry_of old i.key) (sym chosen) ∙ has.loose in
+    let apart : r.key ≢ id.key = λ x.
+        let both : Some (bare has.node) ≡ Some e = sym loose ∙ ap (entry_of old) x ∙ is in
+        let empty : bare has.node ≡ e = cc in
+        let none : find_link e.links name ≡ None = ap (λ (y : Kept). find_link y.links name) (sym empty) in
+        let clash : Some child ≡ None = sym leads ∙ none in
+        absurd cc in
+    let done : Removes old new id.key name r.key = record {
+      superblock = superblock;
+      root = root;
+      gone = entry_is new r.key None gone;
+      linked = λ f at.
+          let alike : e ≡ f = let both : Some e ≡ Some f = sym is ∙ at in cc in
+          entry_is new id.key _ (others id.key (λ x. apart (sym x)) ∙ subst (λ (y : Kept). kept_in mid id.key ≡ Some (record { node = y.node; links = remove_link y.links name })) alike (unlinked e here o));
+      others = λ k not_id not_key. entry_is new k _ (others k not_key ∙ beside k not_id) ∙ sym (entries_in old k);
+      objects = λ f at.
+          let known : b ≡ is_object f.node = was f (beside r.key apart ∙ in_entry old r.key (Some f) at) in
+          let number : cond b 1 0 ≡ objects_at f.node = ap (λ (x : Bool). cond x 1 0) known in
+          omega (arith, objects, number);
+    } in
+    subst (λ (i : NodeId). Removes old new id.key name i.key) same done
+
+-- ---- another node at a leaf
+
+pub sets : (old new : ObjectTree) (key : ℕ) (f : Node → Node) → superblock_of new ≡ superblock_of old → root_of new ≡ root_of old → object_count new ≡ object_count old
+    → ((e : Kept) → kept_in old.nodes key ≡ Some e → kept_in new.nodes key ≡ Some (record { node = f e.node; links = e.links })) → ((k : ℕ) → k ≢ key → kept_in new.nodes k ≡ kept_in old.nodes k) → Sets old new key f
+sets old new key f superblock root objects changed others = record {
+  superblock = superblock;
+  root = root;
+  changed = λ e is. entry_is new key _ (changed e (in_entry old key (Some e) is));
+  others = λ k apart. same_entry old new k (others k apart);
+  objects = objects;
+}
+
+pub shows_sets : (old new : ObjectTree) (id : NodeId) (f : Node → Node) → ((n : Node) → is_group (f n) ≡ is_group n) → ((n : Node) → objects_at (f n) ≡ objects_at n) → HasDataset old id → Sets old new id.key f
+    → (t u : Keyed) (p : List Name) → Shows old t → walk t p ≡ Ok u → key_of u ≡ id.key → Shows new (edit p (on_leaf f) t)
+shows_sets old new id f kind weight has set t u p shows w same =
+    let g = on_leaf f in
+    let entry : entry_of old id.key ≡ Some (kept_of u) = ap (entry_of old) (sym same) ∙ entry_shown old t u p shows w in
+    let is : has.0 ≡ kept_of u = let both : Some has.0 ≡ Some (kept_of u) = sym has.1 ∙ entry in cc in
+    let leaf : is_group (node_of u) ≡ false = dataset_no_group (node_of u) (subst (λ (e : Kept). is_dataset e.node ≡ true) is has.2) in
+    let changed : entry_of new (key_of u) ≡ Some (record { node = f (node_of u); links = links_of u }) = ap (entry_of new) same ∙ set.changed (kept_of u) entry in
+    let kept : AreKept (entry_of old) u = kept_walked (entry_of old) p t u w shows.nodes in
+    let inner = kept-on_leaf (entry_of old) (entry_of new) f u leaf (kind (node_of u) ∙ leaf) kept changed in
+    let sums = objects-edit g p t u w in
+    let equal = objects-on_leaf f u (weight (node_of u)) in
+    let counted = shows.objects in
+    let stays = set.objects in
+    record {
+      root = key-edit p g t u w (key-on_leaf f u) ∙ shows.root ∙ ap (λ (i : NodeId). i.key) (sym set.root);
+      nodes = kept_edit (entry_of old) (entry_of new) g p t u w shows.nodes shows.distinct (key-on_leaf f u) inner (λ k has_key apart. set.others k (λ e. apart (subst (HasKey u) (same ∙ sym e) (own_key u))));
+      ordered = ordered-edit p g t (λ y leads o. ordered-on_leaf f y o) shows.ordered;
+      distinct = distinct_edit g p t u w shows.distinct (distinct-on_leaf f u (distinct_walked p t u w shows.distinct)) (λ k a. inl (has-on_leaf f u k a));
+      objects = omega (arith, sums, equal, counted, stays);
+    }
+
+-- a name that is there is found
+pub finds_none : (old : ObjectTree) (id : NodeId) (name : Name) (r : Option NodeId) → r ≡ None → ((e : Kept) → kept_in old.nodes id.key ≡ Some e → AreOrdered (link_names e.links) → r ≡ find_link e.links name)
+    → (e : Kept) (child : NodeId) → entry_of old id.key ≡ Some e → AreOrdered (link_names e.links) → find_link e.links name ≡ Some child → ⊥
+finds_none old id name r none found e child is o leads = let both : None ≡ Some child = sym none ∙ found e (in_entry old id.key (Some e) is) o ∙ leads in absurd cc
+
+pub counted_less : (now mid new objects gone : ℕ) (b : Bool) → objects ≡ now → mid ≡ now → new + cond b 1 0 ≡ mid → gone ≡ bool_byte b → (objects - gone) + cond b 1 0 ≡ objects
+counted_less now mid new objects gone b is same left byte =
+    let number : gone ≡ cond b 1 0 = byte ∙ byte_is b b refl in
+    omega (arith, is, same, left, number)

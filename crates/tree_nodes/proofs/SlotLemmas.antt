@@ -10,7 +10,7 @@ use Rattle.tree_nodes.specs.declared.entry.Entry.{Entry}
 use Rattle.tree_nodes.specs.declared.node.Node.{Node}
 use Rattle.tree_nodes.specs.declared.node.Node.TheVariants as node
 use Rattle.tree_nodes.specs.declared.node.ChildLink.{ChildLink}
-use Rattle.tree_nodes.specs.Nodes.{Kept, is_object, objects_at, with_layout, with_dims}
+use Rattle.tree_nodes.specs.Nodes.{Kept, is_group, is_object, objects_at, with_layout, with_dims}
 use Rattle.tree_nodes.specs.Slots.{holds_object, objects_in, kept_at, kept_in}
 
 module _ {X : Type 0} (p : Option X → Bool) (empty : p None ≡ false) where
@@ -160,3 +160,15 @@ objects_removed s s' key d b at up was =
     let sums = objects-updates s s' key None up in
     let old : object_at (get s key) ≡ cond b 1 0 = ap object_at at ∙ ap (λ (x : Bool). cond x 1 0) (sym was) in
     omega (arith, sums, old)
+
+pub layout_group : (l : Layout) (n : Node) → is_group (with_layout l n) ≡ is_group n
+layout_group l (node.Group header tree heap) = refl
+layout_group l (node.Dataset header shape elem fill layout filtered) = refl
+layout_group l (node.Soft text) = refl
+layout_group l (node.Other header) = refl
+
+pub dims_group : (l : List ℕ) (n : Node) → is_group (with_dims l n) ≡ is_group n
+dims_group l (node.Group header tree heap) = refl
+dims_group l (node.Dataset header shape elem fill layout filtered) = refl
+dims_group l (node.Soft text) = refl
+dims_group l (node.Other header) = refl
