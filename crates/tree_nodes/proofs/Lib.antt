@@ -3,3 +3,4 @@ pub mod SlotLemmas
 pub mod EditLemmas
 pub mod ChangeLemmas
 pub mod ShownLemmas
+pub mod OneTreeLemmas

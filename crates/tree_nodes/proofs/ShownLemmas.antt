@@ -1,5 +1,5 @@
 -- What an object tree shows, before and after a call.
-use Rattle.std.proofs.Common.{◌≡◌, ◌≢◌, ℕ, ◌+◌, ◌-◌, Bool, true, false, cond, List, [], ◌∷◌, Option, Some, None, Result, Ok, refl, sym, ap, ◌∙◌, subst, inl, inr, ◌⊎◌, arith}
+use Rattle.std.proofs.Common.{◌≡◌, ◌≢◌, ℕ, ◌+◌, ◌-◌, Bool, true, false, cond, List, [], ◌∷◌, get_or, Option, Some, None, Result, Ok, refl, sym, ap, ◌∙◌, subst, inl, inr, ◌⊎◌, arith}
 use Rattle.std.specs.Prelude.{IsSome}
 use mir.Val.{bool_byte}
 use Rattle.slab.specs.Slab.{Slab, get, HasRoomFor}
@@ -7,11 +7,12 @@ use Rattle.object_model.specs.declared.answer.Code.{Code}
 use Rattle.object_model.specs.Tree.{Group, Leaf, Empty, Link, Name, same_name, walk, edit, relink, insert, remove, find, AreOrdered, AreOrderedBelow, IsOrdered}
 use Rattle.object_model.proofs.OrderLemmas.{ordered-edit, ordered-add, ordered-remove_link}
 use Rattle.tree_nodes.specs.declared.node.Node.{Node}
+use Rattle.tree_nodes.specs.declared.node.Node.TheVariants as node
 use Rattle.tree_nodes.specs.declared.node.NodeId.{NodeId}
 use Rattle.tree_nodes.specs.declared.entry.Entry.{Entry}
 use Rattle.tree_nodes.specs.declared.tree.ObjectTree.{ObjectTree}
 use Rattle.tree_nodes.specs.Nodes.{Kept, bare, is_group, is_dataset, is_object, objects_at, child_link, link_names, find_link, insert_link, remove_link}
-use Rattle.tree_nodes.specs.Slots.{kept_in, IsRoomy, IsRoomyAt}
+use Rattle.tree_nodes.specs.Slots.{kept_in, objects_in, IsRoomy, IsRoomyAt}
 use Rattle.tree_nodes.specs.Entries.{root_of, object_count, superblock_of, entry_of, LacksLink, HasLooseLink, Has, HasDataset, HasRoom, Same, Inserts, Removes, Sets}
 use Rattle.tree_nodes.specs.Shown.{Placed, Keyed, KeyedLinks, Shows, key_of, node_of, single, child_links, links_of, kept_of, child_id, on_leaf, objects_of, HasKey, AreDistinct, AreKept}
 use Rattle.std.specs.Option.{option_map}
@@ -319,3 +320,33 @@ pub counted_less : (now mid new objects gone : ℕ) (b : Bool) → objects ≡ n
 counted_less now mid new objects gone b is same left byte =
     let number : gone ≡ cond b 1 0 = byte ∙ byte_is b b refl in
     omega (arith, is, same, left, number)
+
+-- ---- a new tree
+
+pub one_object : (n : Node) → is_group n ≡ true → objects_at n ≡ 1
+one_object (node.Group header tree heap) is = refl
+one_object (node.Dataset header shape elem fill layout filtered) is = absurd cc
+one_object (node.Soft text) is = absurd cc
+one_object (node.Other header) is = absurd cc
+
+pub counted_new : (s s' : Slab Entry) (n : Node) → is_group n ≡ true → s.slots ≡ [] → objects_in s'.slots ≡ objects_in s.slots + objects_at n → 1 ≡ objects_in s'.slots
+unfolding objects_in
+counted_new s s' n is empty sums =
+    let none : objects_in s.slots ≡ 0 = ap objects_in empty in
+    let one = one_object n is in
+    omega (arith, none, one, sums)
+
+pub none_in : (s : Slab Entry) (k : ℕ) → s.slots ≡ [] → get s k ≡ None
+none_in s k empty = ap (λ (xs : List (Option Entry)). get_or xs k None) empty
+
+pub new_others : (kept : ObjectTree) (s : Slab Entry) (key : ℕ) → s.slots ≡ [] → ((k : ℕ) → k ≢ key → get kept.nodes k ≡ get s k) → (k : ℕ) → k ≢ key → entry_of kept k ≡ None
+new_others kept s key empty others k apart = entry_is kept k None (kept_get kept.nodes k None (others k apart ∙ none_in s k empty))
+
+pub shows_new : (kept : ObjectTree) (key : ℕ) (n : Node) → is_group n ≡ true → (root_of kept).key ≡ key → object_count kept ≡ 1 → entry_of kept key ≡ Some (bare n) → Shows kept (single key n)
+shows_new kept key n is root objects made = record {
+  root = key-single key n ∙ sym root;
+  nodes = kept-single (entry_of kept) key n made;
+  ordered = ordered-single key n;
+  distinct = distinct-single key n;
+  objects = objects-single key n ∙ one_object n is ∙ sym objects;
+}

@@ -1,4 +1,4 @@
-ghost use Rattle.std.specs.Prelude.{◌≡◌, ◌≤◌, ◌<◌, None, IfSome, length, vec_len, vec_capacity};
+ghost use Rattle.std.specs.Prelude.{◌≡◌, ◌≤◌, ◌<◌, None, IfSome, length, slice_get, option_copied, vec_len, vec_capacity};
 ghost use Rattle.object_model.specs.Tree.{AreOrdered, name_lt};
 ghost use Rattle.tree_nodes.specs.Nodes.{link_names, find_link, insert_link, remove_link, place_in, IsLinkAt};
 
@@ -45,6 +45,13 @@ pub(crate) fn find(links: &[ChildLink], name: &LinkName) -> Option<NodeId>
         Some(i) => Some(links[i].node),
         None => None,
     }
+}
+
+/// The link at a place, from 0.
+pub(crate) fn link_at(links: &[ChildLink], place: usize) -> Option<&ChildLink>
+    ensures { option_copied result ≡ slice_get links.now place }
+{
+    links.get(place)
 }
 
 /// One link more, at its place.

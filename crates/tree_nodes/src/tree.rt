@@ -116,7 +116,7 @@ impl ObjectTree {
         ensures entry { (e : Kept) → entry_of self.now id.key ≡ Some e → option_copied result ≡ slice_get e.links k }
         ensures tree { (t u : Keyed) (p : List Name) → Shows self.now t → walk t p ≡ Ok u → key_of u ≡ id.key → option_copied result ≡ slice_get (links_of u) k }
     {
-        self.entry(id).links.as_slice().get(k as usize)
+        places::link_at(&self.entry(id).links, k as usize)
     }
 
     /// Makes room for one more link of the node, and for the node that it leads to.
