@@ -9,6 +9,7 @@ use Rattle.object_model.proofs.OrderLemmas.{ordered-edit, ordered-add, ordered-r
 use Rattle.tree_nodes.specs.declared.node.Node.{Node}
 use Rattle.tree_nodes.specs.declared.node.Node.TheVariants as node
 use Rattle.tree_nodes.specs.declared.node.NodeId.{NodeId}
+use Rattle.tree_nodes.specs.declared.node.ChildLink.{ChildLink}
 use Rattle.tree_nodes.specs.declared.entry.Entry.{Entry}
 use Rattle.tree_nodes.specs.declared.tree.ObjectTree.{ObjectTree}
 use Rattle.tree_nodes.specs.Nodes.{Kept, bare, is_group, is_dataset, is_object, objects_at, child_link, link_names, find_link, insert_link, remove_link}
@@ -82,21 +83,20 @@ pub inserts : (old new : ObjectTree) (mid : Slab Entry) (id : NodeId) (name : Na
     → get old.nodes key ≡ None → kept_in mid key ≡ Some (bare n) → ((k : ℕ) → k ≢ key → get mid k ≡ get old.nodes k)
     → ((e : Kept) → kept_in mid id.key ≡ Some e → AreOrdered (link_names e.links) → find_link e.links name ≡ None → kept_in new.nodes id.key ≡ Some (record { node = e.node; links = insert_link e.links (child_link name key) }))
     → ((k : ℕ) → k ≢ id.key → kept_in new.nodes k ≡ kept_in mid k)
-    → LacksLink old id name → (e : Kept) → entry_of old id.key ≡ Some e → AreOrdered (link_names e.links) → Inserts old new id.key name key n
-inserts old new mid id name key n superblock root objects fresh made beside linked others lacks e is o =
+    → LacksLink old id name → Inserts old new id.key name key n
+inserts old new mid id name key n superblock root objects fresh made beside linked others lacks =
     let vacant : entry_of old key ≡ None = entry_is old key None (kept_get old.nodes key None fresh) in
-    let apart : id.key ≢ key = λ same. let both : Some e ≡ None = sym is ∙ ap (entry_of old) same ∙ vacant in absurd cc in
-    let group : kept_in mid id.key ≡ Some e = Slots.kept_same old.nodes mid id.key id.key (beside id.key apart) ∙ in_entry old id.key (Some e) is in
-    let same : lacks.0 ≡ e = let both : Some lacks.0 ≡ Some e = sym lacks.1 ∙ is in cc in
-    let none : find_link e.links name ≡ None = subst (λ (x : Kept). find_link x.links name ≡ None) same lacks.3 in
+    let apart : id.key ≢ key = λ same. let both : Some lacks.0 ≡ None = sym lacks.1 ∙ ap (entry_of old) same ∙ vacant in absurd cc in
     record {
       superblock = superblock;
       root = root;
       fresh = vacant;
       made = entry_is new key (Some (bare n)) (others key (λ x. apart (sym x)) ∙ made);
-      linked = λ f at.
-          let one : e ≡ f = let both : Some e ≡ Some f = sym is ∙ at in cc in
-          entry_is new id.key _ (subst (λ (x : Kept). kept_in new.nodes id.key ≡ Some (record { node = x.node; links = insert_link x.links (child_link name key) })) one (linked e group o none));
+      linked = λ e is o.
+          let group : kept_in mid id.key ≡ Some e = Slots.kept_same old.nodes mid id.key id.key (beside id.key apart) ∙ in_entry old id.key (Some e) is in
+          let same : lacks.0 ≡ e = let both : Some lacks.0 ≡ Some e = sym lacks.1 ∙ is in cc in
+          let none : find_link e.links name ≡ None = subst (λ (x : Kept). find_link x.links name ≡ None) same lacks.3 in
+          entry_is new id.key _ (linked e group o none);
       others = λ k not_id not_key. entry_is new k _ (others k not_id ∙ Slots.kept_same old.nodes mid k k (beside k not_key)) ∙ sym (entries_in old k);
       objects = objects;
     }
@@ -128,7 +128,7 @@ shows_link old new id name key n t u p shows w same isg none ins =
     let kept : AreKept (entry_of old) u = kept_walked (entry_of old) p t u w shows.nodes in
     let distinct : AreDistinct u = distinct_walked p t u w shows.distinct in
     let entry : entry_of old id.key ≡ Some (kept_of u) = ap (entry_of old) (sym same) ∙ entry_shown old t u p shows w in
-    let linked : entry_of new (key_of u) ≡ Some (record { node = node_of u; links = insert_link (links_of u) (child_link name key) }) = ap (entry_of new) same ∙ ins.linked (kept_of u) entry in
+    let linked : entry_of new (key_of u) ≡ Some (record { node = node_of u; links = insert_link (links_of u) (child_link name key) }) = ap (entry_of new) same ∙ ins.linked (kept_of u) entry (ordered_links u (walked_ordered p t u w shows.ordered)) in
     let strange : (k : ℕ) → HasKey t k → k ≢ key = λ k has x. kept_key (entry_of old) t k shows.nodes has (ap (entry_of old) x ∙ ins.fresh) in
     let others : (k : ℕ) → HasKey t k → k ≢ key_of u → entry_of new k ≡ entry_of old k = λ k has apart. ins.others k (λ x. apart (x ∙ sym same)) (strange k has) in
     let unknown : (k : ℕ) → HasKey (single key n) k → HasKey t k → ⊥ = λ k a b. strange k b (sym (has-single key n k a)) in
@@ -147,14 +147,14 @@ shows_link old new id name key n t u p shows w same isg none ins =
       objects = omega (arith, sums, more, one, counted, grown);
     }
 
-pub shows_inserts : (old new : ObjectTree) (id : NodeId) (name : Name) (key : ℕ) (n : Node) → LacksLink old id name → ((e : Kept) → entry_of old id.key ≡ Some e → AreOrdered (link_names e.links) → Inserts old new id.key name key n)
+pub shows_inserts : (old new : ObjectTree) (id : NodeId) (name : Name) (key : ℕ) (n : Node) → LacksLink old id name → Inserts old new id.key name key n
     → (t u : Keyed) (p : List Name) → Shows old t → walk t p ≡ Ok u → key_of u ≡ id.key → Shows new (edit p (relink (λ ls. insert ls name (single key n))) t)
 shows_inserts old new id name key n lacks ins t u p shows w same =
     let entry : entry_of old id.key ≡ Some (kept_of u) = ap (entry_of old) (sym same) ∙ entry_shown old t u p shows w in
     let is : lacks.0 ≡ kept_of u = let both : Some lacks.0 ≡ Some (kept_of u) = sym lacks.1 ∙ entry in cc in
     let isg : is_group (node_of u) ≡ true = subst (λ (x : Kept). is_group x.node ≡ true) is lacks.2 in
     let none : child_id u name ≡ None = sym (child-links u name) ∙ subst (λ (x : Kept). find_link x.links name ≡ None) is lacks.3 in
-    shows_link old new id name key n t u p shows w same isg none (of_shown_ordered old id.key (λ e. Inserts old new id.key name key n) ins t u p shows w same)
+    shows_link old new id name key n t u p shows w same isg none ins
 
 -- ---- room
 
@@ -350,3 +350,31 @@ shows_new kept key n is root objects made = record {
   distinct = distinct-single key n;
   objects = objects-single key n ∙ one_object n is ∙ sym objects;
 }
+
+-- ---- what the calls ask for
+
+pub has_shown : (kept : ObjectTree) (id : NodeId) (t u : Keyed) (p : List Name) → Shows kept t → walk t p ≡ Ok u → key_of u ≡ id.key → Has kept id
+has_shown kept id t u p shows w same = subst (λ (o : Option Kept). IsSome o) (sym (ap (entry_of kept) (sym same) ∙ entry_shown kept t u p shows w)) refl
+
+pub lacks_shown : (kept : ObjectTree) (id : NodeId) (t : Keyed) (p : List Name) (x : Placed) (ls : KeyedLinks) (name : Name) → Shows kept t → walk t p ≡ Ok (Group x ls) → x.key ≡ id.key → find ls name ≡ None → LacksLink kept id name
+lacks_shown kept id t p x ls name shows w same none =
+    let u = Group x ls in
+    let first : AreKept (entry_of kept) u = kept_walked (entry_of kept) p t u w shows.nodes in
+    (kept_of u, ap (entry_of kept) (sym same) ∙ entry_shown kept t u p shows w, first.0, child-links u name ∙ ap (option_map id_of) none)
+
+pub loose_shown : (kept : ObjectTree) (id : NodeId) (t : Keyed) (p : List Name) (x : Placed) (ls : KeyedLinks) (v : Keyed) (name : Name) → Shows kept t → walk t p ≡ Ok (Group x ls) → x.key ≡ id.key → find ls name ≡ Some v → links_of v ≡ []
+    → HasLooseLink kept id name
+loose_shown kept id t p x ls v name shows w same leads none =
+    let u = Group x ls in
+    let first : AreKept (entry_of kept) u = kept_walked (entry_of kept) p t u w shows.nodes in
+    record {
+      group = kept_of u;
+      at = ap (entry_of kept) (sym same) ∙ entry_shown kept t u p shows w;
+      child = id_of v;
+      found = child-links u name ∙ ap (option_map id_of) leads;
+      node = node_of v;
+      loose = kept_first (entry_of kept) v (kept_found (entry_of kept) ls name v leads first.2) ∙ ap (λ (l : List ChildLink). Some (record { node = node_of v; links = l })) none;
+    }
+
+pub dataset_shown : (kept : ObjectTree) (id : NodeId) (t u : Keyed) (p : List Name) → Shows kept t → walk t p ≡ Ok u → key_of u ≡ id.key → is_dataset (node_of u) ≡ true → HasDataset kept id
+dataset_shown kept id t u p shows w same is = (kept_of u, ap (entry_of kept) (sym same) ∙ entry_shown kept t u p shows w, is)

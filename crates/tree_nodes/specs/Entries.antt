@@ -2,11 +2,11 @@
 -- Cited by the contracts of the object tree.
 use Rattle.std.specs.Prelude.{◌≡◌, ◌≢◌, ℕ, ◌+◌, true, Option, Some, None, IsSome}
 use Rattle.super_codec.specs.declared.superblock.Superblock.{Superblock}
-use Rattle.object_model.specs.Tree.{Name}
+use Rattle.object_model.specs.Tree.{Name, AreOrdered}
 use Rattle.tree_nodes.specs.declared.node.Node.{Node}
 use Rattle.tree_nodes.specs.declared.node.NodeId.{NodeId}
 use Rattle.tree_nodes.specs.declared.tree.ObjectTree.{ObjectTree}
-use Rattle.tree_nodes.specs.Nodes.{Kept, bare, is_group, is_dataset, objects_at, child_link, find_link, insert_link, remove_link}
+use Rattle.tree_nodes.specs.Nodes.{Kept, bare, is_group, is_dataset, objects_at, child_link, link_names, find_link, insert_link, remove_link}
 use Rattle.tree_nodes.specs.Slots.{kept_in, IsRoomyAt}
 
 abbrev pub superblock_of : ObjectTree → Superblock
@@ -57,13 +57,14 @@ pub record Same (old new : ObjectTree) : Type 0 where
   pub entries : (k : ℕ) → entry_of new k ≡ entry_of old k
   pub objects : object_count new ≡ object_count old
 
--- a new node under a free key, and a link to it in the group
+-- a new node under a free key, and a link to it at its place among the group's, whose names ascend
 pub record Inserts (old new : ObjectTree) (group : ℕ) (name : Name) (key : ℕ) (node : Node) : Type 0 where
   pub superblock : superblock_of new ≡ superblock_of old
   pub root : root_of new ≡ root_of old
   pub fresh : entry_of old key ≡ None
   pub made : entry_of new key ≡ Some (bare node)
-  pub linked : (e : Kept) → entry_of old group ≡ Some e → entry_of new group ≡ Some (record { node = e.node; links = insert_link e.links (child_link name key) })
+  pub linked : (e : Kept) → entry_of old group ≡ Some e → AreOrdered (link_names e.links)
+      → entry_of new group ≡ Some (record { node = e.node; links = insert_link e.links (child_link name key) })
   pub others : (k : ℕ) → k ≢ group → k ≢ key → entry_of new k ≡ entry_of old k
   pub objects : object_count new ≡ object_count old + objects_at node
 

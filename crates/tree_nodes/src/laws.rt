@@ -1,13 +1,33 @@
 //! Laws of the tree that an object tree shows. Each function does nothing: its clause is the law.
 
-ghost use Rattle.tree_nodes.specs.Laws.{OneTree, EntryShown};
+ghost use Rattle.tree_nodes.specs.Laws.{OneTree, EntryShown, HasShown, LacksShown, LooseShown, DatasetShown};
 
 /// An object tree shows at most one tree.
 pub fn one_tree()
     ensures { OneTree }
 {}
 
-/// What a path leads to is kept under its key, so that the calls that take an id can be made.
+/// What a path leads to is kept under its key.
 pub fn entry_shown()
     ensures { EntryShown }
+{}
+
+/// What a path leads to is in the tree.
+pub fn has_shown()
+    ensures { HasShown }
+{}
+
+/// Where a path leads to a group without a name, `insert` may be asked for it.
+pub fn lacks_shown()
+    ensures { LacksShown }
+{}
+
+/// Where a path leads to a group with a name behind which no links are, `remove` may be asked for it.
+pub fn loose_shown()
+    ensures { LooseShown }
+{}
+
+/// Where a path leads to a dataset, it may be set.
+pub fn dataset_shown()
+    ensures { DatasetShown }
 {}

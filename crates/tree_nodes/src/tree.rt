@@ -136,7 +136,7 @@ impl ObjectTree {
     pub fn insert(&mut self, id: NodeId, name: LinkName, node: Node) -> NodeId
         requires room { HasRoom self.old id }
         requires lacks { LacksLink self.old id name }
-        ensures entry { (e : Kept) → entry_of self.old id.key ≡ Some e → AreOrdered (link_names e.links) → Inserts self.old self.new id.key name result.key node }
+        ensures entry { Inserts self.old self.new id.key name result.key node }
         ensures tree { (t u : Keyed) (p : List Name) → Shows self.old t → walk t p ≡ Ok u → key_of u ≡ id.key → Shows self.new (edit p (relink (λ ls. insert ls name (single result.key node))) t) }
     {
         let added = u64::from(node.is_object());
@@ -150,6 +150,8 @@ impl ObjectTree {
     /// The link of this name goes, and the node that it led to. It takes no memory.
     pub fn remove(&mut self, id: NodeId, name: &LinkName)
         requires { HasLooseLink self.old id name.now }
+        ensures superblock { superblock_of self.new ≡ superblock_of self.old }
+        ensures root { root_of self.new ≡ root_of self.old }
         ensures entry { (e : Kept) (child : NodeId) → entry_of self.old id.key ≡ Some e → AreOrdered (link_names e.links) → find_link e.links name.now ≡ Some child → Removes self.old self.new id.key name.now child.key }
         ensures tree { (t u : Keyed) (p : List Name) → Shows self.old t → walk t p ≡ Ok u → key_of u ≡ id.key → Shows self.new (edit p (relink (λ ls. remove ls name.now)) t) }
     {
