@@ -1,5 +1,5 @@
 -- One link more or fewer at a node of a tree with keys, and another node at a leaf.
-use Rattle.std.proofs.Common.{◌≡◌, ◌≢◌, ℕ, ◌+◌, Bool, true, false, cond, List, [], ◌∷◌, Option, Some, None, Ok, Err, refl, sym, ap, ◌∙◌, subst, inl, inr, ◌⊎◌, arith}
+use Rattle.std.proofs.Common.{◌≡◌, ◌≢◌, ℕ, ◌+◌, Bool, true, false, cond, List, [], ◌∷◌, Option, Some, None, refl, sym, ap, ◌∙◌, subst, inl, inr, ◌⊎◌, arith}
 use Rattle.std.specs.Option.{option_map}
 use Rattle.object_model.specs.Tree.{Group, Leaf, Empty, Link, Name, name_lt, same_name, names, find, insert, remove, relink, IsOrdered, AreOrdered}
 use Rattle.tree_nodes.specs.declared.node.Node.{Node}

@@ -1,12 +1,10 @@
 -- What an edit leaves of a tree with keys.
-use Rattle.std.proofs.Common.{◌≡◌, ◌≢◌, ℕ, ◌+◌, Bool, true, false, cond, List, [], ◌∷◌, Option, Some, None, Ok, Err, ok_or, refl, sym, ap, ◌∙◌, subst, inl, inr, ◌⊎◌, arith}
+use Rattle.std.proofs.Common.{◌≡◌, ℕ, ◌+◌, true, false, cond, List, [], ◌∷◌, Option, Some, None, Ok, ok_or, refl, sym, ap, ◌∙◌, subst, inl, inr, ◌⊎◌, arith}
 use Rattle.object_model.specs.declared.answer.Code.TheVariants.{Absent}
-use Rattle.object_model.specs.Tree.{Group, Leaf, Empty, Link, Name, name_lt, same_name, find, walk, edit, replace, insert, remove, relink, ◌>>=◌}
-use Rattle.tree_nodes.specs.declared.node.Node.{Node}
-use Rattle.tree_nodes.specs.declared.node.NodeId.{NodeId}
+use Rattle.object_model.specs.Tree.{Group, Leaf, Empty, Link, Name, same_name, find, walk, edit, replace, ◌>>=◌}
 use Rattle.tree_nodes.specs.declared.node.ChildLink.{ChildLink}
-use Rattle.tree_nodes.specs.Nodes.{Kept, bare, is_group, objects_at, child_link, link_names, find_link, insert_link, remove_link}
-use Rattle.tree_nodes.specs.Shown.{Placed, Keyed, KeyedLinks, key_of, node_of, single, child_links, links_of, kept_of, child_id, objects_of, objects_below, HasKey, HasKeyBelow, AreDistinct, AreDistinctBelow, AreKept, AreKeptBelow}
+use Rattle.tree_nodes.specs.Nodes.{Kept, child_link}
+use Rattle.tree_nodes.specs.Shown.{Placed, Keyed, KeyedLinks, key_of, child_links, objects_of, objects_below, HasKey, HasKeyBelow, AreDistinct, AreDistinctBelow, AreKept, AreKeptBelow}
 
 -- ---- one step of a path
 

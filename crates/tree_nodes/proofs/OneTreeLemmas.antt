@@ -1,10 +1,10 @@
 -- An object tree shows at most one tree.
-use Rattle.std.proofs.Common.{◌≡◌, ℕ, Bool, true, false, List, [], ◌∷◌, Option, Some, None, refl, sym, ap, ◌∙◌}
-use Rattle.object_model.specs.Tree.{Group, Leaf, Empty, Link, Name}
+use Rattle.std.proofs.Common.{◌≡◌, ℕ, true, false, Option, Some, refl, sym, ap, ◌∙◌}
+use Rattle.object_model.specs.Tree.{Group, Leaf, Empty, Link}
 use Rattle.tree_nodes.specs.declared.node.Node.{Node}
 use Rattle.tree_nodes.specs.declared.node.ChildLink.{ChildLink}
 use Rattle.tree_nodes.specs.declared.tree.ObjectTree.{ObjectTree}
-use Rattle.tree_nodes.specs.Nodes.{Kept, bare, is_group, child_link}
+use Rattle.tree_nodes.specs.Nodes.{Kept, is_group, child_link}
 use Rattle.tree_nodes.specs.Entries.{entry_of}
 use Rattle.tree_nodes.specs.Shown.{Placed, Keyed, KeyedLinks, Shows, key_of, child_links, AreKept, AreKeptBelow}
 

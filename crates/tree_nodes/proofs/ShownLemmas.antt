@@ -1,5 +1,5 @@
 -- What an object tree shows, before and after a call.
-use Rattle.std.proofs.Common.{◌≡◌, ◌≢◌, ℕ, ◌+◌, ◌-◌, Bool, true, false, cond, List, [], ◌∷◌, get_or, Option, Some, None, Result, Ok, refl, sym, ap, ◌∙◌, subst, inl, inr, ◌⊎◌, arith}
+use Rattle.std.proofs.Common.{◌≡◌, ◌≢◌, ℕ, ◌+◌, ◌-◌, Bool, true, false, cond, List, [], ◌∷◌, get_or, Option, Some, None, Result, Ok, refl, sym, ap, ◌∙◌, subst, inl, inr, arith}
 use Rattle.std.specs.Prelude.{IsSome}
 use mir.Val.{bool_byte}
 use Rattle.slab.specs.Slab.{Slab, get, HasRoomFor}
@@ -15,7 +15,7 @@ use Rattle.tree_nodes.specs.declared.tree.ObjectTree.{ObjectTree}
 use Rattle.tree_nodes.specs.Nodes.{Kept, bare, is_group, is_dataset, is_object, objects_at, child_link, link_names, find_link, insert_link, remove_link}
 use Rattle.tree_nodes.specs.Slots.{kept_in, objects_in, IsRoomy, IsRoomyAt}
 use Rattle.tree_nodes.specs.Entries.{root_of, object_count, superblock_of, entry_of, LacksLink, HasLooseLink, Has, HasDataset, HasRoom, Same, Inserts, Removes, Sets}
-use Rattle.tree_nodes.specs.Shown.{Placed, Keyed, KeyedLinks, Shows, key_of, node_of, single, child_links, links_of, kept_of, child_id, on_leaf, objects_of, HasKey, AreDistinct, AreKept}
+use Rattle.tree_nodes.specs.Shown.{Placed, Keyed, KeyedLinks, Shows, key_of, node_of, single, child_links, links_of, kept_of, child_id, on_leaf, HasKey, AreDistinct, AreKept}
 use Rattle.std.specs.Option.{option_map}
 use Rattle.tree_nodes.proofs.SlotLemmas.{kept_get, entry_kept}
 use Rattle.tree_nodes.proofs.SlotLemmas as Slots

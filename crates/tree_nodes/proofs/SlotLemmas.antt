@@ -1,5 +1,5 @@
 -- How many of the slots of a slab pass a test, where one slot changes.
-use Rattle.std.proofs.Common.{◌≡◌, ◌≢◌, ℕ, zero, suc, ◌+◌, ◌<◌, ◌≤◌, Bool, true, false, cond, List, [], ◌∷◌, length, get_or, Option, Some, None, is_some, refl, sym, ap, ◌∙◌, subst, arith}
+use Rattle.std.proofs.Common.{◌≡◌, ◌≢◌, ℕ, zero, suc, ◌+◌, ◌≤◌, Bool, true, false, cond, List, [], ◌∷◌, get_or, Option, Some, None, is_some, refl, sym, ap, ◌∙◌, subst, arith}
 use Rattle.std.specs.Prelude.{count_by, slice_set, IsSome, ◌==◌}
 use Rattle.std.proofs.lemmas.List.Sums.{sum_by-cons}
 use Rattle.std.proofs.lemmas.Bool.{eqb-true, eqb-false}
@@ -9,7 +9,6 @@ use Rattle.header_codec.specs.declared.types.Layout.{Layout}
 use Rattle.tree_nodes.specs.declared.entry.Entry.{Entry}
 use Rattle.tree_nodes.specs.declared.node.Node.{Node}
 use Rattle.tree_nodes.specs.declared.node.Node.TheVariants as node
-use Rattle.tree_nodes.specs.declared.node.ChildLink.{ChildLink}
 use Rattle.tree_nodes.specs.Nodes.{Kept, is_group, is_object, objects_at, with_layout, with_dims}
 use Rattle.tree_nodes.specs.Slots.{holds_object, objects_in, kept_at, kept_in}
 

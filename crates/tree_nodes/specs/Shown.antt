@@ -1,6 +1,6 @@
 -- The tree that an object tree shows: each node with its key.
 -- Cited by the contracts of the object tree.
-use Rattle.std.specs.Prelude.{◌≡◌, ◌⊎◌, ℕ, ◌+◌, Bool, true, false, List, [], ◌∷◌, Option, Some, None, if◌then◌else◌}
+use Rattle.std.specs.Prelude.{◌≡◌, ◌⊎◌, ℕ, ◌+◌, true, false, List, [], ◌∷◌, Option, Some, None, if◌then◌else◌}
 use Rattle.std.specs.Option.{option_map}
 use Rattle.object_model.specs.Tree.{Tree, Group, Leaf, Links, Empty, Link, Name, find, IsOrdered}
 use Rattle.tree_nodes.specs.declared.node.Node.{Node}

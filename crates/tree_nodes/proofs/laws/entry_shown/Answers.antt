@@ -1,4 +1,3 @@
-use Rattle.std.proofs.Common.{◌≡◌}
 use Rattle.tree_nodes.specs.Entries.{entry_of}
 use Rattle.tree_nodes.proofs.EditLemmas.{kept_walked}
 use Rattle.tree_nodes.proofs.ChangeLemmas.{kept_first}

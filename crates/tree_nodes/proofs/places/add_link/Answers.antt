@@ -1,5 +1,4 @@
-use Rattle.std.proofs.Common.{◌≡◌, ◌∙◌, sym, ap, subst, List, ℕ}
-use Rattle.std.specs.Prelude.{insert}
+use Rattle.std.proofs.Common.{◌≡◌, ◌∙◌, subst, List}
 use Rattle.object_model.specs.Tree.{AreOrdered}
 use Rattle.tree_nodes.specs.declared.node.ChildLink.{ChildLink}
 use Rattle.tree_nodes.specs.Nodes.{link_names, place_in}

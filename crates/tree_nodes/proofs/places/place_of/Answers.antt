@@ -1,4 +1,4 @@
-use Rattle.std.proofs.Common.{rules, of_calls, ◌≡◌, true}
+use Rattle.std.proofs.Common.{rules, of_calls}
 use Rattle.std.proofs.lemmas.Fn.{always_returns_same}
 use Rattle.object_model.specs.Tree.{name_lt}
 use Rattle.tree_nodes.proofs.PlaceLemmas.{place_is, comes_before_all}

@@ -1,8 +1,5 @@
-use Rattle.std.proofs.Common.{◌≡◌, ◌≢◌, ℕ, ◌+◌, ◌<◌, ◌≤◌, sym, ◌∙◌, ap, subst, Option, Some, None, List, arith}
-use Rattle.slab.specs.Slab.{get, slab_len}
-use Rattle.tree_nodes.specs.declared.entry.Entry.{Entry}
+use Rattle.std.proofs.Common.{◌∙◌, ap, Some, List, arith}
 use Rattle.tree_nodes.specs.declared.node.ChildLink.{ChildLink}
-use Rattle.tree_nodes.specs.Nodes.{Kept}
 use Rattle.tree_nodes.proofs.SlotLemmas.{kept_get, objects_new, objects-le}
 use Rattle.tree_nodes.proofs.slots.add_node.Goals as goal
 

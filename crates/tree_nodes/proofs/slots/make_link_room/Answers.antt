@@ -1,5 +1,4 @@
-use Rattle.std.proofs.Common.{◌≡◌, sym, ◌∙◌, ap, refl, Some, List}
-use Rattle.tree_nodes.specs.declared.node.ChildLink.{ChildLink}
+use Rattle.std.proofs.Common.{sym, refl}
 use Rattle.tree_nodes.proofs.SlotLemmas.{kept_rewritten, objects_written}
 use Rattle.tree_nodes.proofs.slots.make_link_room.Goals as goal
 

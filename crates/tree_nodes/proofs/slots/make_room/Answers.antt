@@ -1,4 +1,4 @@
-use Rattle.std.proofs.Common.{◌≡◌, sym, ◌∙◌, ap}
+use Rattle.std.proofs.Common.{◌∙◌, ap}
 use Rattle.slab.specs.Slab.{Slab, get}
 use Rattle.tree_nodes.specs.declared.entry.Entry.{Entry}
 use Rattle.tree_nodes.proofs.SlotLemmas.{kept_same}

@@ -1,4 +1,4 @@
-use Rattle.std.proofs.Common.{◌≡◌, sym, ◌∙◌, ap, refl, Some}
+use Rattle.std.proofs.Common.{sym}
 use Rattle.tree_nodes.proofs.SlotLemmas.{of_entry, of_none, kept_get, kept_same, objects_removed}
 use Rattle.tree_nodes.proofs.slots.remove_node.Goals as goal
 

@@ -1,6 +1,6 @@
-use Rattle.std.proofs.Common.{◌≡◌, sym, ◌∙◌, ap, Some, Bool}
+use Rattle.std.proofs.Common.{sym, ◌∙◌, ap, Some}
 use Rattle.tree_nodes.specs.declared.node.Node.{Node}
-use Rattle.tree_nodes.specs.Nodes.{Kept, is_object}
+use Rattle.tree_nodes.specs.Nodes.{is_object}
 use Rattle.tree_nodes.proofs.SlotLemmas.{of_entry, of_none, kept_written, kept_beside, objects_written, layout_object}
 use Rattle.tree_nodes.proofs.slots.set_layout.Goals as goal
 

@@ -1,6 +1,5 @@
-use Rattle.std.proofs.Common.{◌≡◌, sym, ◌∙◌, ap, refl, Some, List}
+use Rattle.std.proofs.Common.{sym, ◌∙◌, ap, refl, Some, List}
 use Rattle.tree_nodes.specs.declared.node.ChildLink.{ChildLink}
-use Rattle.tree_nodes.specs.Nodes.{Kept}
 use Rattle.tree_nodes.proofs.SlotLemmas.{of_entry, of_none, kept_written, kept_beside, objects_written}
 use Rattle.tree_nodes.proofs.slots.unlink.Goals as goal
 

@@ -1,4 +1,4 @@
-use Rattle.std.proofs.Common.{◌≡◌, rules}
+use Rattle.std.proofs.Common.{rules}
 use Rattle.tree_nodes.proofs.ShownLemmas.{child_shown}
 use Rattle.tree_nodes.proofs.tree.ObjectTree.child.Goals as goal
 

@@ -1,6 +1,5 @@
 use Rattle.std.proofs.Common.{◌≡◌, rules}
 use Rattle.std.specs.Prelude.{slice_get, option_copied}
-use Rattle.tree_nodes.specs.Nodes.{Kept}
 use Rattle.tree_nodes.proofs.ShownLemmas.{of_shown}
 use Rattle.tree_nodes.proofs.tree.ObjectTree.child_at.Goals as goal
 

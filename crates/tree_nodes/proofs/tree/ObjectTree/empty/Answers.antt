@@ -1,4 +1,4 @@
-use Rattle.std.proofs.Common.{◌≡◌, [], ◌∙◌, ap, refl, Option, List}
+use Rattle.std.proofs.Common.{◌∙◌, ap, refl}
 use Rattle.slab.specs.Slab.{Slab}
 use Rattle.tree_nodes.specs.declared.entry.Entry.{Entry}
 use Rattle.tree_nodes.proofs.ShownLemmas.{entry_is, counted_new, new_others, shows_new}

@@ -1,4 +1,4 @@
-use Rattle.std.proofs.Common.{◌≡◌, sym}
+use Rattle.std.proofs.Common.{sym}
 use Rattle.tree_nodes.proofs.ShownLemmas.{no_entry, entry_got}
 use Rattle.tree_nodes.proofs.tree.ObjectTree.entry.Goals as goal
 

@@ -1,5 +1,4 @@
-use Rattle.std.proofs.Common.{◌≡◌, sym, ◌∙◌, ap, refl, Some, ℕ, ◌+◌}
-use Rattle.tree_nodes.specs.Nodes.{is_object}
+use Rattle.std.proofs.Common.{◌∙◌, ap, refl, ℕ, ◌+◌}
 use Rattle.tree_nodes.proofs.ShownLemmas.{inserts, shows_inserts, room_node, room_link, byte_is}
 use Rattle.tree_nodes.proofs.tree.ObjectTree.insert.Goals as goal
 

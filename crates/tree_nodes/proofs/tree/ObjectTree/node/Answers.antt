@@ -1,5 +1,4 @@
 use Rattle.std.proofs.Common.{◌≡◌, rules}
-use Rattle.tree_nodes.specs.Nodes.{Kept}
 use Rattle.tree_nodes.proofs.ShownLemmas.{of_shown}
 use Rattle.tree_nodes.proofs.tree.ObjectTree.node.Goals as goal
 

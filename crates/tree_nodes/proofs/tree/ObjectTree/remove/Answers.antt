@@ -1,4 +1,4 @@
-use Rattle.std.proofs.Common.{◌≡◌, refl, sym, ◌∙◌}
+use Rattle.std.proofs.Common.{refl}
 use Rattle.tree_nodes.specs.Slots.{objects_in}
 use Rattle.tree_nodes.proofs.ShownLemmas.{removes, shows_removes, finds_none, counted_less}
 use Rattle.tree_nodes.proofs.tree.ObjectTree.remove.Goals as goal

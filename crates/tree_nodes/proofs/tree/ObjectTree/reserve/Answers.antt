@@ -1,4 +1,4 @@
-use Rattle.std.proofs.Common.{◌≡◌, refl}
+use Rattle.std.proofs.Common.{refl}
 use Rattle.tree_nodes.proofs.ShownLemmas.{same_tree, shows_same, has_room}
 use Rattle.tree_nodes.proofs.tree.ObjectTree.reserve.Goals as goal
 

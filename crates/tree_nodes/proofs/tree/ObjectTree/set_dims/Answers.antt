@@ -1,4 +1,4 @@
-use Rattle.std.proofs.Common.{◌≡◌, refl, ap, Bool, cond, ℕ}
+use Rattle.std.proofs.Common.{refl, ap, Bool, cond}
 use Rattle.tree_nodes.specs.Nodes.{with_dims}
 use Rattle.tree_nodes.proofs.SlotLemmas.{dims_object, dims_group}
 use Rattle.tree_nodes.proofs.ShownLemmas.{sets, shows_sets}

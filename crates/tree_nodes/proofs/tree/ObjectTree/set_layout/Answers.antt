@@ -1,4 +1,4 @@
-use Rattle.std.proofs.Common.{◌≡◌, refl, ap, Bool, cond, ℕ}
+use Rattle.std.proofs.Common.{refl, ap, Bool, cond}
 use Rattle.tree_nodes.specs.Nodes.{with_layout}
 use Rattle.tree_nodes.proofs.SlotLemmas.{layout_object, layout_group}
 use Rattle.tree_nodes.proofs.ShownLemmas.{sets, shows_sets}
