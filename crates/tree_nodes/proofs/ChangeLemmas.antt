@@ -120,12 +120,11 @@ distinct-insert Empty name new d e apart = (e, tt, λ k a b. b)
 distinct-insert (Link m t rest) name new d e apart =
     elim (name_lt name m) as (λ b. AreDistinctBelow (cond b (Link name new (Link m t rest)) (Link m t (insert rest name new)))) [
       | true ↦ (e, d, apart)
-      | false ↦
-          (
-            d.0,
-            distinct-insert rest name new d.1 e (λ k a b. apart k a (inr b)),
-            λ k a b. elim (inserted_key rest name new k b) [ inl old ↦ d.2 k a old | inr made ↦ apart k made (inl a) ],
-          )
+      | false ↦ (
+        d.0,
+        distinct-insert rest name new d.1 e (λ k a b. apart k a (inr b)),
+        λ k a b. elim (inserted_key rest name new k b) [ inl old ↦ d.2 k a old | inr made ↦ apart k made (inl a) ],
+      )
     ]
 
 objects-insert : (ls : KeyedLinks) (name : Name) (new : Keyed) → objects_below (insert ls name new) ≡ objects_below ls + objects_of new
@@ -154,11 +153,10 @@ kept-with_link at at' name key n (Group x ls) isg h d made linked others =
 
 pub distinct-with_link : (name : Name) (new u : Keyed) → AreDistinct u → AreDistinct new → ((k : ℕ) → HasKey new k → HasKey u k → ⊥) → AreDistinct (with_link name new u)
 distinct-with_link name new (Leaf x) d e apart = tt
-distinct-with_link name new (Group x ls) d e apart =
-    (
-      λ below. elim (inserted_key ls name new x.key below) [ inl old ↦ d.0 old | inr made ↦ apart x.key made (inl refl) ],
-      distinct-insert ls name new d.1 e (λ k a b. apart k a (inr b)),
-    )
+distinct-with_link name new (Group x ls) d e apart = (
+  λ below. elim (inserted_key ls name new x.key below) [ inl old ↦ d.0 old | inr made ↦ apart x.key made (inl refl) ],
+  distinct-insert ls name new d.1 e (λ k a b. apart k a (inr b)),
+)
 
 pub has-with_link : (name : Name) (new u : Keyed) (k : ℕ) → HasKey (with_link name new u) k → HasKey u k ⊎ HasKey new k
 has-with_link name new (Leaf x) k h = inl h
@@ -213,12 +211,11 @@ without_link name u = relink (λ ls. remove ls name) u
 
 pub kept-without_link : (at at' : ℕ → Option Kept) (name : Name) (x : Placed) (ls : KeyedLinks) (v : Keyed) → find ls name ≡ Some v → AreKept at (Group x ls) → AreDistinct (Group x ls)
     → at' x.key ≡ Some (record { node = x.node; links = remove_link (child_links ls) name }) → ((k : ℕ) → k ≢ x.key → k ≢ key_of v → at' k ≡ at k) → AreKept at' (without_link name (Group x ls))
-kept-without_link at at' name x ls v is h d linked others =
-    (
-      h.0,
-      linked ∙ ap (λ (l : List ChildLink). Some (record { node = x.node; links = l })) (sym (links-remove ls name)),
-      kept-remove at at' ls name v is h.2 d.1 (λ k has apart. others k (λ same. d.0 (subst (HasKeyBelow ls) same has)) (λ same. apart (subst (HasKey v) (sym same) (own_key v)))),
-    )
+kept-without_link at at' name x ls v is h d linked others = (
+  h.0,
+  linked ∙ ap (λ (l : List ChildLink). Some (record { node = x.node; links = l })) (sym (links-remove ls name)),
+  kept-remove at at' ls name v is h.2 d.1 (λ k has apart. others k (λ same. d.0 (subst (HasKeyBelow ls) same has)) (λ same. apart (subst (HasKey v) (sym same) (own_key v)))),
+)
 
 pub distinct-without_link : (name : Name) (x : Placed) (ls : KeyedLinks) → AreDistinct (Group x ls) → AreDistinct (without_link name (Group x ls))
 distinct-without_link name x ls d = (λ below. d.0 (removed_key ls name x.key below), distinct-remove ls name d.1)
@@ -236,13 +233,12 @@ objects_loose (Group y (Link n t rest)) none = absurd cc
 objects_loose (Leaf y) none = refl
 
 -- the node behind a name that is found
-pub found_child : (u : Keyed) (name : Name) (child : NodeId) → child_id u name ≡ Some child → (x : Placed) × (ls : KeyedLinks) × (v : Keyed) × (u ≡ Group x ls) × (find ls name ≡ Some v) × (key_of v ≡ child.key)
-found_child (Leaf x) name child is = absurd cc
-found_child (Group x ls) name child is = go (find ls name) refl is
+pub child_at : (ls : KeyedLinks) (name : Name) (child : NodeId) → option_map (λ u. record { key = key_of u }) (find ls name) ≡ Some child → (v : Keyed) × (find ls name ≡ Some v) × (key_of v ≡ child.key)
+child_at ls name child is = go (find ls name) refl is
   where
-    go : (o : Option Keyed) → find ls name ≡ o → option_map (λ u. record { key = key_of u }) o ≡ Some child → (y : Placed) × (ms : KeyedLinks) × (v : Keyed) × (Group x ls ≡ Group y ms) × (find ms name ≡ Some v) × (key_of v ≡ child.key)
+    go : (o : Option Keyed) → find ls name ≡ o → option_map {U = NodeId} (λ u. record { key = key_of u }) o ≡ Some child → (v : Keyed) × (find ls name ≡ Some v) × (key_of v ≡ child.key)
     go None e h = absurd cc
-    go (Some v) e h = let same : record { key = key_of v } ≡ child = cc in (x, ls, v, refl, e, ap (λ (i : NodeId). i.key) same)
+    go (Some v) e h = let same : record { key = key_of v } ≡ child = cc in (v, e, ap (λ (i : NodeId). i.key) same)
 
 -- ---- another node at a leaf
 
