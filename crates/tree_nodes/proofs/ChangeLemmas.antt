@@ -50,7 +50,7 @@ pub child-links : (u : Keyed) (name : Name) → find_link (links_of u) name ≡ 
 child-links (Group x ls) name = find-links ls name
 child-links (Leaf x) name = refl
 
-links-insert : (ls : KeyedLinks) (name : Name) (new : Keyed) → child_links (insert ls name new) ≡ insert_link (child_links ls) (child_link name (key_of new))
+pub links-insert : (ls : KeyedLinks) (name : Name) (new : Keyed) → child_links (insert ls name new) ≡ insert_link (child_links ls) (child_link name (key_of new))
 links-insert Empty name new = refl
 links-insert (Link m t rest) name new =
     elim (name_lt name m) as (λ b. child_links (cond b (Link name new (Link m t rest)) (Link m t (insert rest name new))) ≡ cond b (child_link name (key_of new) ∷ child_links (Link m t rest)) (child_link m (key_of t) ∷ insert_link (child_links rest) (child_link name (key_of new)))) [
@@ -58,7 +58,7 @@ links-insert (Link m t rest) name new =
       | false ↦ ap (λ (ks : List ChildLink). child_link m (key_of t) ∷ ks) (links-insert rest name new)
     ]
 
-links-remove : (ls : KeyedLinks) (name : Name) → child_links (remove ls name) ≡ remove_link (child_links ls) name
+pub links-remove : (ls : KeyedLinks) (name : Name) → child_links (remove ls name) ≡ remove_link (child_links ls) name
 links-remove Empty name = refl
 links-remove (Link m t rest) name =
     elim (same_name m name) as (λ b. child_links (cond b rest (Link m t (remove rest name))) ≡ cond b (child_links rest) (child_link m (key_of t) ∷ remove_link (child_links rest) name)) [
@@ -99,7 +99,7 @@ ordered-single key n =
 
 -- ---- one link more
 
-kept-insert : (at : ℕ → Option Kept) (ls : KeyedLinks) (name : Name) (new : Keyed) → AreKeptBelow at ls → AreKept at new → AreKeptBelow at (insert ls name new)
+pub kept-insert : (at : ℕ → Option Kept) (ls : KeyedLinks) (name : Name) (new : Keyed) → AreKeptBelow at ls → AreKept at new → AreKeptBelow at (insert ls name new)
 kept-insert at Empty name new h k = (k, tt)
 kept-insert at (Link m t rest) name new h k =
     elim (name_lt name m) as (λ b. AreKeptBelow at (cond b (Link name new (Link m t rest)) (Link m t (insert rest name new)))) [
@@ -107,7 +107,7 @@ kept-insert at (Link m t rest) name new h k =
       | false ↦ (h.0, kept-insert at rest name new h.1 k)
     ]
 
-inserted_key : (ls : KeyedLinks) (name : Name) (new : Keyed) (k : ℕ) → HasKeyBelow (insert ls name new) k → HasKeyBelow ls k ⊎ HasKey new k
+pub inserted_key : (ls : KeyedLinks) (name : Name) (new : Keyed) (k : ℕ) → HasKeyBelow (insert ls name new) k → HasKeyBelow ls k ⊎ HasKey new k
 inserted_key Empty name new k h = elim h [ inl a ↦ inr a | inr b ↦ absurd b ]
 inserted_key (Link m t rest) name new k h =
     (elim (name_lt name m) as (λ b. HasKeyBelow (cond b (Link name new (Link m t rest)) (Link m t (insert rest name new))) k → HasKeyBelow (Link m t rest) k ⊎ HasKey new k) [
@@ -115,20 +115,19 @@ inserted_key (Link m t rest) name new k h =
       | false ↦ λ l. elim l [ inl a ↦ inl (inl a) | inr b ↦ elim (inserted_key rest name new k b) [ inl c ↦ inl (inr c) | inr c ↦ inr c ] ]
     ]) h
 
-distinct-insert : (ls : KeyedLinks) (name : Name) (new : Keyed) → AreDistinctBelow ls → AreDistinct new → ((k : ℕ) → HasKey new k → HasKeyBelow ls k → ⊥) → AreDistinctBelow (insert ls name new)
+pub distinct-insert : (ls : KeyedLinks) (name : Name) (new : Keyed) → AreDistinctBelow ls → AreDistinct new → ((k : ℕ) → HasKey new k → HasKeyBelow ls k → ⊥) → AreDistinctBelow (insert ls name new)
 distinct-insert Empty name new d e apart = (e, tt, λ k a b. b)
 distinct-insert (Link m t rest) name new d e apart =
     elim (name_lt name m) as (λ b. AreDistinctBelow (cond b (Link name new (Link m t rest)) (Link m t (insert rest name new)))) [
       | true ↦ (e, d, apart)
-      | false ↦
-          (
-            d.0,
-            distinct-insert rest name new d.1 e (λ k a b. apart k a (inr b)),
-            λ k a b. elim (inserted_key rest name new k b) [ inl old ↦ d.2 k a old | inr made ↦ apart k made (inl a) ],
-          )
+      | false ↦ (
+        d.0,
+        distinct-insert rest name new d.1 e (λ k a b. apart k a (inr b)),
+        λ k a b. elim (inserted_key rest name new k b) [ inl old ↦ d.2 k a old | inr made ↦ apart k made (inl a) ],
+      )
     ]
 
-objects-insert : (ls : KeyedLinks) (name : Name) (new : Keyed) → objects_below (insert ls name new) ≡ objects_below ls + objects_of new
+pub objects-insert : (ls : KeyedLinks) (name : Name) (new : Keyed) → objects_below (insert ls name new) ≡ objects_below ls + objects_of new
 objects-insert Empty name new = omega arith
 objects-insert (Link m t rest) name new =
     elim (name_lt name m) as (λ b. objects_below (cond b (Link name new (Link m t rest)) (Link m t (insert rest name new))) ≡ (objects_of t + objects_below rest) + objects_of new) [
@@ -154,11 +153,10 @@ kept-with_link at at' name key n (Group x ls) isg h d made linked others =
 
 pub distinct-with_link : (name : Name) (new u : Keyed) → AreDistinct u → AreDistinct new → ((k : ℕ) → HasKey new k → HasKey u k → ⊥) → AreDistinct (with_link name new u)
 distinct-with_link name new (Leaf x) d e apart = tt
-distinct-with_link name new (Group x ls) d e apart =
-    (
-      λ below. elim (inserted_key ls name new x.key below) [ inl old ↦ d.0 old | inr made ↦ apart x.key made (inl refl) ],
-      distinct-insert ls name new d.1 e (λ k a b. apart k a (inr b)),
-    )
+distinct-with_link name new (Group x ls) d e apart = (
+  λ below. elim (inserted_key ls name new x.key below) [ inl old ↦ d.0 old | inr made ↦ apart x.key made (inl refl) ],
+  distinct-insert ls name new d.1 e (λ k a b. apart k a (inr b)),
+)
 
 pub has-with_link : (name : Name) (new u : Keyed) (k : ℕ) → HasKey (with_link name new u) k → HasKey u k ⊎ HasKey new k
 has-with_link name new (Leaf x) k h = inl h
@@ -170,7 +168,7 @@ objects-with_link name new (Group x ls) isg at h = let more = objects-insert ls 
 
 -- ---- one link fewer
 
-kept-remove : (at at' : ℕ → Option Kept) (ls : KeyedLinks) (name : Name) (v : Keyed) → find ls name ≡ Some v → AreKeptBelow at ls → AreDistinctBelow ls → ((k : ℕ) → HasKeyBelow ls k → (HasKey v k → ⊥) → at' k ≡ at k) → AreKeptBelow at' (remove ls name)
+pub kept-remove : (at at' : ℕ → Option Kept) (ls : KeyedLinks) (name : Name) (v : Keyed) → find ls name ≡ Some v → AreKeptBelow at ls → AreDistinctBelow ls → ((k : ℕ) → HasKeyBelow ls k → (HasKey v k → ⊥) → at' k ≡ at k) → AreKeptBelow at' (remove ls name)
 kept-remove at at' Empty name v is h d same = tt
 kept-remove at at' (Link m t rest) name v is h d same =
     (elim (same_name m name) as (λ b. cond b (Some t) (find rest name) ≡ Some v → AreKeptBelow at' (cond b rest (Link m t (remove rest name)))) [
@@ -181,7 +179,7 @@ kept-remove at at' (Link m t rest) name v is h d same =
           (kept_same at at' t (λ k has. same k (inl has) (λ inside. d.2 k has (found_key rest name v k q inside))) h.0, kept-remove at at' rest name v q h.1 d.1 (λ k has. same k (inr has)))
     ]) is
 
-removed_key : (ls : KeyedLinks) (name : Name) (k : ℕ) → HasKeyBelow (remove ls name) k → HasKeyBelow ls k
+pub removed_key : (ls : KeyedLinks) (name : Name) (k : ℕ) → HasKeyBelow (remove ls name) k → HasKeyBelow ls k
 removed_key Empty name k h = h
 removed_key (Link m t rest) name k h =
     (elim (same_name m name) as (λ b. HasKeyBelow (cond b rest (Link m t (remove rest name))) k → HasKeyBelow (Link m t rest) k) [
@@ -189,7 +187,7 @@ removed_key (Link m t rest) name k h =
       | false ↦ λ l. elim l [ inl a ↦ inl a | inr b ↦ inr (removed_key rest name k b) ]
     ]) h
 
-distinct-remove : (ls : KeyedLinks) (name : Name) → AreDistinctBelow ls → AreDistinctBelow (remove ls name)
+pub distinct-remove : (ls : KeyedLinks) (name : Name) → AreDistinctBelow ls → AreDistinctBelow (remove ls name)
 distinct-remove Empty name d = tt
 distinct-remove (Link m t rest) name d =
     elim (same_name m name) as (λ b. AreDistinctBelow (cond b rest (Link m t (remove rest name)))) [
@@ -197,7 +195,7 @@ distinct-remove (Link m t rest) name d =
       | false ↦ (d.0, distinct-remove rest name d.1, λ k a b. d.2 k a (removed_key rest name k b))
     ]
 
-objects-remove : (ls : KeyedLinks) (name : Name) (v : Keyed) → find ls name ≡ Some v → objects_below (remove ls name) + objects_of v ≡ objects_below ls
+pub objects-remove : (ls : KeyedLinks) (name : Name) (v : Keyed) → find ls name ≡ Some v → objects_below (remove ls name) + objects_of v ≡ objects_below ls
 objects-remove Empty name v is = absurd cc
 objects-remove (Link m t rest) name v is =
     (elim (same_name m name) as (λ b. cond b (Some t) (find rest name) ≡ Some v → objects_below (cond b rest (Link m t (remove rest name))) + objects_of v ≡ objects_of t + objects_below rest) [
@@ -213,12 +211,11 @@ without_link name u = relink (λ ls. remove ls name) u
 
 pub kept-without_link : (at at' : ℕ → Option Kept) (name : Name) (x : Placed) (ls : KeyedLinks) (v : Keyed) → find ls name ≡ Some v → AreKept at (Group x ls) → AreDistinct (Group x ls)
     → at' x.key ≡ Some (record { node = x.node; links = remove_link (child_links ls) name }) → ((k : ℕ) → k ≢ x.key → k ≢ key_of v → at' k ≡ at k) → AreKept at' (without_link name (Group x ls))
-kept-without_link at at' name x ls v is h d linked others =
-    (
-      h.0,
-      linked ∙ ap (λ (l : List ChildLink). Some (record { node = x.node; links = l })) (sym (links-remove ls name)),
-      kept-remove at at' ls name v is h.2 d.1 (λ k has apart. others k (λ same. d.0 (subst (HasKeyBelow ls) same has)) (λ same. apart (subst (HasKey v) (sym same) (own_key v)))),
-    )
+kept-without_link at at' name x ls v is h d linked others = (
+  h.0,
+  linked ∙ ap (λ (l : List ChildLink). Some (record { node = x.node; links = l })) (sym (links-remove ls name)),
+  kept-remove at at' ls name v is h.2 d.1 (λ k has apart. others k (λ same. d.0 (subst (HasKeyBelow ls) same has)) (λ same. apart (subst (HasKey v) (sym same) (own_key v)))),
+)
 
 pub distinct-without_link : (name : Name) (x : Placed) (ls : KeyedLinks) → AreDistinct (Group x ls) → AreDistinct (without_link name (Group x ls))
 distinct-without_link name x ls d = (λ below. d.0 (removed_key ls name x.key below), distinct-remove ls name d.1)
@@ -236,13 +233,12 @@ objects_loose (Group y (Link n t rest)) none = absurd cc
 objects_loose (Leaf y) none = refl
 
 -- the node behind a name that is found
-pub found_child : (u : Keyed) (name : Name) (child : NodeId) → child_id u name ≡ Some child → (x : Placed) × (ls : KeyedLinks) × (v : Keyed) × (u ≡ Group x ls) × (find ls name ≡ Some v) × (key_of v ≡ child.key)
-found_child (Leaf x) name child is = absurd cc
-found_child (Group x ls) name child is = go (find ls name) refl is
+pub child_at : (ls : KeyedLinks) (name : Name) (child : NodeId) → option_map (λ u. record { key = key_of u }) (find ls name) ≡ Some child → (v : Keyed) × (find ls name ≡ Some v) × (key_of v ≡ child.key)
+child_at ls name child is = go (find ls name) refl is
   where
-    go : (o : Option Keyed) → find ls name ≡ o → option_map (λ u. record { key = key_of u }) o ≡ Some child → (y : Placed) × (ms : KeyedLinks) × (v : Keyed) × (Group x ls ≡ Group y ms) × (find ms name ≡ Some v) × (key_of v ≡ child.key)
+    go : (o : Option Keyed) → find ls name ≡ o → option_map {U = NodeId} (λ u. record { key = key_of u }) o ≡ Some child → (v : Keyed) × (find ls name ≡ Some v) × (key_of v ≡ child.key)
     go None e h = absurd cc
-    go (Some v) e h = let same : record { key = key_of v } ≡ child = cc in (x, ls, v, refl, e, ap (λ (i : NodeId). i.key) same)
+    go (Some v) e h = let same : record { key = key_of v } ≡ child = cc in (v, e, ap (λ (i : NodeId). i.key) same)
 
 -- ---- another node at a leaf
 

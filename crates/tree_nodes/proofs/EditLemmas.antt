@@ -134,8 +134,7 @@ kept_edit at at' f (n ∷ ns) (Group x ls) u w h d key new same =
     let (v, is, next) = first_step x ls n ns u w in
     let inner : AreKept at' (edit ns f v) = kept_edit at at' f ns v u next (kept_found at ls n v is h.2) (distinct_found ls n v is d.1) key new (λ k has. same k (inr (found_key ls n v k is has))) in
     let own : at' x.key ≡ at x.key = same x.key (inl refl) (λ inside. d.0 (found_key ls n v x.key is (walked_key ns v u x.key next inside))) in
-    let links : child_links (replace ls n (edit ns f)) ≡ child_links ls = links-replace ls n (edit ns f) v is (key-edit ns f v u next key) in
-    (
+    let links : child_links (replace ls n (edit ns f)) ≡ child_links ls = links-replace ls n (edit ns f) v is (key-edit ns f v u next key) in (
       h.0,
       own ∙ h.1 ∙ ap (λ (l : List ChildLink). Some (record { node = x.node; links = l })) (sym links),
       kept_replace at at' ls n (edit ns f) v is h.2 d.1 inner (λ k has apart. same k (inr has) (λ inside. apart (walked_key ns v u k next inside))),
@@ -148,8 +147,7 @@ distinct_replace Empty n g v is d new fresh = tt
 distinct_replace (Link m t rest) n g v is d new fresh =
     (elim (same_name m n) as (λ b. cond b (Some t) (find rest n) ≡ Some v → AreDistinctBelow (cond b (Link m (g t) rest) (Link m t (replace rest n g)))) [
       | true ↦ λ q.
-          let here : v ≡ t = cc in
-          (
+          let here : v ≡ t = cc in (
             subst (λ (y : Keyed). AreDistinct (g y)) here new,
             d.1,
             λ k a b. elim (fresh k (subst (λ (y : Keyed). HasKey (g y) k) (sym here) a)) [
@@ -157,15 +155,14 @@ distinct_replace (Link m t rest) n g v is d new fresh =
               | inr lacks ↦ lacks (inr b)
             ],
           )
-      | false ↦ λ q.
-          (
-            d.0,
-            distinct_replace rest n g v q d.1 new (λ k a. elim (fresh k a) [ inl old ↦ inl old | inr lacks ↦ inr (λ b. lacks (inr b)) ]),
-            λ k a b. elim (replaced_key rest n g v k q b) [
-              | inl before ↦ d.2 k a before
-              | inr there ↦ elim (fresh k there) [ inl old ↦ d.2 k a (found_key rest n v k q old) | inr lacks ↦ lacks (inl a) ]
-            ],
-          )
+      | false ↦ λ q. (
+        d.0,
+        distinct_replace rest n g v q d.1 new (λ k a. elim (fresh k a) [ inl old ↦ inl old | inr lacks ↦ inr (λ b. lacks (inr b)) ]),
+        λ k a b. elim (replaced_key rest n g v k q b) [
+          | inl before ↦ d.2 k a before
+          | inr there ↦ elim (fresh k there) [ inl old ↦ d.2 k a (found_key rest n v k q old) | inr lacks ↦ lacks (inl a) ]
+        ],
+      )
     ]) is
 
 pub distinct_edit : (f : Keyed → Keyed) (p : List Name) (t u : Keyed) → walk t p ≡ Ok u → AreDistinct t → AreDistinct (f u) → ((k : ℕ) → HasKey (f u) k → HasKey u k ⊎ (HasKey t k → ⊥)) → AreDistinct (edit p f t)
@@ -177,8 +174,7 @@ distinct_edit f (n ∷ ns) (Group x ls) u w d new fresh =
       | inl old ↦ inl old
       | inr made ↦ elim (fresh k made) [ inl old ↦ inl (walked_key ns v u k next old) | inr lacks ↦ inr (λ b. lacks (inr b)) ]
     ] in
-    let inner : AreDistinct (edit ns f v) = distinct_edit f ns v u next (distinct_found ls n v is d.1) new (λ k a. elim (fresh k a) [ inl old ↦ inl old | inr lacks ↦ inr (λ b. lacks (inr (found_key ls n v k is b))) ]) in
-    (
+    let inner : AreDistinct (edit ns f v) = distinct_edit f ns v u next (distinct_found ls n v is d.1) new (λ k a. elim (fresh k a) [ inl old ↦ inl old | inr lacks ↦ inr (λ b. lacks (inr (found_key ls n v k is b))) ]) in (
       λ below. elim (replaced_key ls n (edit ns f) v x.key is below) [
         | inl before ↦ d.0 before
         | inr there ↦ elim (edited_key ns f v u x.key next there) [

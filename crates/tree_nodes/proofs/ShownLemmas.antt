@@ -20,7 +20,7 @@ use Rattle.std.specs.Option.{option_map}
 use Rattle.tree_nodes.proofs.SlotLemmas.{kept_get, entry_kept}
 use Rattle.tree_nodes.proofs.SlotLemmas as Slots
 use Rattle.tree_nodes.proofs.EditLemmas.{first_step, own_key, found_key, walked_key, key-edit, kept_same, kept_found, kept_edit, kept_walked, distinct_edit, distinct_walked, objects-edit}
-use Rattle.tree_nodes.proofs.ChangeLemmas.{kept_first, kept_key, ordered_links, child-links, key-single, has-single, kept-single, distinct-single, objects-single, ordered-single, with_link, key-with_link, kept-with_link, distinct-with_link, has-with_link, objects-with_link, without_link, kept-without_link, distinct-without_link, has-without_link, objects-without_link, objects_loose, found_child, key-on_leaf, has-on_leaf, kept-on_leaf, distinct-on_leaf, objects-on_leaf, ordered-on_leaf, dataset_no_group}
+use Rattle.tree_nodes.proofs.ChangeLemmas.{kept_first, kept_key, ordered_links, child-links, key-single, has-single, kept-single, distinct-single, objects-single, ordered-single, with_link, key-with_link, kept-with_link, distinct-with_link, has-with_link, objects-with_link, without_link, kept-without_link, distinct-without_link, has-without_link, objects-without_link, objects_loose, child_at, key-on_leaf, has-on_leaf, kept-on_leaf, distinct-on_leaf, objects-on_leaf, ordered-on_leaf, dataset_no_group}
 
 -- ---- what is shown of a node
 
@@ -107,10 +107,10 @@ okay t = Ok t
 ok_is : (t u : Keyed) → okay t ≡ okay u → t ≡ u
 ok_is t u h = cc
 
-abbrev id_of : Keyed → NodeId
+abbrev pub id_of : Keyed → NodeId
 id_of y = record { key = key_of y }
 
-no_child : (r : Option Keyed) → option_map id_of r ≡ None → r ≡ None
+pub no_child : (r : Option Keyed) → option_map id_of r ≡ None → r ≡ None
 no_child None q = refl
 no_child (Some y) q = absurd cc
 
@@ -224,6 +224,22 @@ shows_unlink old new id name t p x ls v shows w same is none rem =
       objects = omega (arith, sums, fewer, loose, counted, left);
     }
 
+shows_loose : (old new : ObjectTree) (id : NodeId) (name : Name) (t : Keyed) (p : List Name) (x : Placed) (ls : KeyedLinks) (v : Keyed) (child : NodeId) (n : Node) → Shows old t → walk t p ≡ Ok (Group x ls) → x.key ≡ id.key
+    → find ls name ≡ Some v → key_of v ≡ child.key → entry_of old child.key ≡ Some (bare n) → Removes old new id.key name child.key → Shows new (edit p (without_link name) t)
+shows_loose old new id name t p x ls v child n shows w same leads key loose rem =
+    let kept : AreKept (entry_of old) (Group x ls) = kept_walked (entry_of old) p t (Group x ls) w shows.nodes in
+    let there : entry_of old (key_of v) ≡ Some (kept_of v) = kept_first (entry_of old) v (kept_found (entry_of old) ls name v leads kept.2) in
+    let both : Some (bare n) ≡ Some (kept_of v) = sym loose ∙ ap (entry_of old) (sym key) ∙ there in
+    let is : bare n ≡ kept_of v = cc in
+    shows_unlink old new id name t p x ls v shows w same leads (sym (ap (λ (e : Kept). e.links) is)) (subst (Removes old new id.key name) (sym key) rem)
+
+shows_found : (old new : ObjectTree) (id : NodeId) (name : Name) (t u : Keyed) (p : List Name) (child : NodeId) (n : Node) → Shows old t → walk t p ≡ Ok u → key_of u ≡ id.key
+    → child_id u name ≡ Some child → entry_of old child.key ≡ Some (bare n) → Removes old new id.key name child.key → Shows new (edit p (without_link name) t)
+shows_found old new id name t (Leaf x) p child n shows w same is loose rem = absurd cc
+shows_found old new id name t (Group x ls) p child n shows w same is loose rem =
+    let (v, leads, key) = child_at ls name child is in
+    shows_loose old new id name t p x ls v child n shows w same leads key loose rem
+
 pub shows_removes : (old new : ObjectTree) (id : NodeId) (name : Name) → HasLooseLink old id name
     → ((e : Kept) (child : NodeId) → entry_of old id.key ≡ Some e → AreOrdered (link_names e.links) → find_link e.links name ≡ Some child → Removes old new id.key name child.key)
     → (t u : Keyed) (p : List Name) → Shows old t → walk t p ≡ Ok u → key_of u ≡ id.key → Shows new (edit p (relink (λ ls. remove ls name)) t)
@@ -231,15 +247,8 @@ shows_removes old new id name has rem t u p shows w same =
     let entry : entry_of old id.key ≡ Some (kept_of u) = ap (entry_of old) (sym same) ∙ entry_shown old t u p shows w in
     let is : has.group ≡ kept_of u = let both : Some has.group ≡ Some (kept_of u) = sym has.at ∙ entry in cc in
     let found : find_link (links_of u) name ≡ Some has.child = subst (λ (e : Kept). find_link e.links name ≡ Some has.child) is has.found in
-    let (x, ls, v, group, leads, key) = found_child u name has.child (sym (child-links u name) ∙ found) in
-    let w' : walk t p ≡ Ok (Group x ls) = w ∙ ap (λ (y : Keyed). okay y) group in
-    let same' : x.key ≡ id.key = ap key_of (sym group) ∙ same in
-    let kept : AreKept (entry_of old) (Group x ls) = kept_walked (entry_of old) p t (Group x ls) w' shows.nodes in
-    let there : entry_of old (key_of v) ≡ Some (kept_of v) = kept_first (entry_of old) v (kept_found (entry_of old) ls name v leads kept.2) in
-    let both : Some (bare has.node) ≡ Some (kept_of v) = sym has.loose ∙ ap (entry_of old) (sym key) ∙ there in
-    let loose : bare has.node ≡ kept_of v = cc in
-    let removes : Removes old new id.key name has.child.key = rem (kept_of u) has.child entry (ordered_links u (walked_ordered p t u w shows.ordered)) found in
-    shows_unlink old new id name t p x ls v shows w' same' leads (sym (ap (λ (e : Kept). e.links) loose)) (subst (Removes old new id.key name) (sym key) removes)
+    shows_found old new id name t u p has.child has.node shows w same (sym (child-links u name) ∙ found) has.loose
+    (rem (kept_of u) has.child entry (ordered_links u (walked_ordered p t u w shows.ordered)) found)
 
 pub removes : (old new : ObjectTree) (mid : Slab Entry) (id : NodeId) (name : Name) (r : NodeId) (b : Bool) → HasLooseLink old id name
     → superblock_of new ≡ superblock_of old → root_of new ≡ root_of old → object_count new + cond b 1 0 ≡ object_count old
@@ -257,11 +266,11 @@ removes old new mid id name r b has superblock root objects found unlinked besid
     let chosen : has.child ≡ r = cc in
     let loose : entry_of old r.key ≡ Some (bare has.node) = ap (λ (i : NodeId). entry_of old i.key) (sym chosen) ∙ has.loose in
     let apart : r.key ≢ id.key = λ x.
-        let both : Some (bare has.node) ≡ Some e = sym loose ∙ ap (entry_of old) x ∙ is in
-        let empty : bare has.node ≡ e = cc in
-        let none : find_link e.links name ≡ None = ap (λ (y : Kept). find_link y.links name) (sym empty) in
-        let clash : Some child ≡ None = sym leads ∙ none in
-        absurd cc in
+    let both : Some (bare has.node) ≡ Some e = sym loose ∙ ap (entry_of old) x ∙ is in
+    let empty : bare has.node ≡ e = cc in
+    let none : find_link e.links name ≡ None = ap (λ (y : Kept). find_link y.links name) (sym empty) in
+    let clash : Some child ≡ None = sym leads ∙ none in
+    absurd cc in
     let done : Removes old new id.key name r.key = record {
       superblock = superblock;
       root = root;
@@ -378,3 +387,11 @@ loose_shown kept id t p x ls v name shows w same leads none =
 
 pub dataset_shown : (kept : ObjectTree) (id : NodeId) (t u : Keyed) (p : List Name) → Shows kept t → walk t p ≡ Ok u → key_of u ≡ id.key → is_dataset (node_of u) ≡ true → HasDataset kept id
 dataset_shown kept id t u p shows w same is = (kept_of u, ap (entry_of kept) (sym same) ∙ entry_shown kept t u p shows w, is)
+
+-- what `child` answers is in the tree
+pub child_kept : (kept : ObjectTree) (t : Keyed) (p : List Name) (x : Placed) (ls : KeyedLinks) (name : Name) (child : NodeId) → Shows kept t → walk t p ≡ Ok (Group x ls) → child_id (Group x ls) name ≡ Some child
+    → (v : Keyed) × (find ls name ≡ Some v) × (entry_of kept child.key ≡ Some (kept_of v))
+child_kept kept t p x ls name child shows w is =
+    let (v, leads, key) = child_at ls name child is in
+    let first : AreKept (entry_of kept) (Group x ls) = kept_walked (entry_of kept) p t (Group x ls) w shows.nodes in
+    (v, leads, ap (entry_of kept) (sym key) ∙ kept_first (entry_of kept) v (kept_found (entry_of kept) ls name v leads first.2))

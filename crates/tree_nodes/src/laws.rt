@@ -1,6 +1,6 @@
 //! Laws of the tree that an object tree shows. Each function does nothing: its clause is the law.
 
-ghost use Rattle.tree_nodes.specs.Laws.{OneTree, EntryShown, HasShown, LacksShown, LooseShown, DatasetShown};
+ghost use Rattle.tree_nodes.specs.Laws.{OneTree, EntryShown, KeptFrame, HasShown, LacksShown, LooseShown, DatasetShown};
 
 /// An object tree shows at most one tree.
 pub fn one_tree()
@@ -10,6 +10,11 @@ pub fn one_tree()
 /// What a path leads to is kept under its key.
 pub fn entry_shown()
     ensures { EntryShown }
+{}
+
+/// What is kept of a tree depends on what stands under its own keys alone.
+pub fn kept_frame()
+    ensures { KeptFrame }
 {}
 
 /// What a path leads to is in the tree.

@@ -24,9 +24,13 @@ pub enum Node {
         filtered: bool,
     },
     /// A soft link: the text of its target.
-    Soft { text: Bytes },
+    Soft {
+        text: Bytes,
+    },
     /// An object that is neither a group nor a dataset that is known.
-    Other { header_at: u64 },
+    Other {
+        header_at: u64,
+    },
 }
 
 /// A node of the tree that gave it.

@@ -57,7 +57,8 @@ pub(crate) fn link_at(links: &[ChildLink], place: usize) -> Option<&ChildLink>
 /// One link more, at its place.
 pub(crate) fn add_link(links: &mut Vec<ChildLink>, link: ChildLink)
     requires { vec_len links.old < vec_capacity links.old }
-    ensures { AreOrdered (link_names links.old.items) → find_link links.old.items link.name ≡ None → links.new.items ≡ insert_link links.old.items link }
+    ensures { AreOrdered (link_names links.old.items) → find_link links.old.items link.name ≡ None
+        → links.new.items ≡ insert_link links.old.items link }
 {
     let place = place_of(links.as_slice(), &link.name);
     match links.insert(place, link) {

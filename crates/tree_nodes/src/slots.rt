@@ -55,7 +55,8 @@ pub(crate) fn add_node(alloc: Global, nodes: &mut Slab<Entry>, node: Node) -> us
 /// One link more under the key.
 pub(crate) fn link(nodes: &mut Slab<Entry>, key: usize, link: ChildLink)
     requires { IsRoomy (get nodes.old key) }
-    ensures linked { (e : Kept) → kept_in nodes.old key ≡ Some e → AreOrdered (link_names e.links) → find_link e.links link.name ≡ None → kept_in nodes.new key ≡ Some (record { node = e.node; links = insert_link e.links link }) }
+    ensures linked { (e : Kept) → kept_in nodes.old key ≡ Some e → AreOrdered (link_names e.links) → find_link e.links link.name ≡ None
+        → kept_in nodes.new key ≡ Some (record { node = e.node; links = insert_link e.links link }) }
     ensures others { (k : ℕ) → k ≢ key → kept_in nodes.new k ≡ kept_in nodes.old k }
     ensures objects { objects_in nodes.new.slots ≡ objects_in nodes.old.slots }
 {
@@ -67,7 +68,8 @@ pub(crate) fn link(nodes: &mut Slab<Entry>, key: usize, link: ChildLink)
 /// One link fewer under the key, and the node that it led to.
 pub(crate) fn unlink(nodes: &mut Slab<Entry>, key: usize, name: &LinkName) -> Option<NodeId>
     ensures found { (e : Kept) → kept_in nodes.old key ≡ Some e → AreOrdered (link_names e.links) → result ≡ find_link e.links name.now }
-    ensures unlinked { (e : Kept) → kept_in nodes.old key ≡ Some e → AreOrdered (link_names e.links) → kept_in nodes.new key ≡ Some (record { node = e.node; links = remove_link e.links name.now }) }
+    ensures unlinked { (e : Kept) → kept_in nodes.old key ≡ Some e → AreOrdered (link_names e.links)
+        → kept_in nodes.new key ≡ Some (record { node = e.node; links = remove_link e.links name.now }) }
     ensures others { (k : ℕ) → k ≢ key → kept_in nodes.new k ≡ kept_in nodes.old k }
     ensures objects { objects_in nodes.new.slots ≡ objects_in nodes.old.slots }
 {
@@ -90,8 +92,10 @@ pub(crate) fn remove_node(nodes: &mut Slab<Entry>, key: usize) -> bool
     }
 }
 
+/// Another layout for the dataset under the key.
 pub(crate) fn set_layout(nodes: &mut Slab<Entry>, key: usize, layout: Layout)
-    ensures changed { (e : Kept) → kept_in nodes.old key ≡ Some e → kept_in nodes.new key ≡ Some (record { node = with_layout layout e.node; links = e.links }) }
+    ensures changed { (e : Kept) → kept_in nodes.old key ≡ Some e
+        → kept_in nodes.new key ≡ Some (record { node = with_layout layout e.node; links = e.links }) }
     ensures others { (k : ℕ) → k ≢ key → kept_in nodes.new k ≡ kept_in nodes.old k }
     ensures objects { objects_in nodes.new.slots ≡ objects_in nodes.old.slots }
 {
@@ -100,8 +104,10 @@ pub(crate) fn set_layout(nodes: &mut Slab<Entry>, key: usize, layout: Layout)
     }
 }
 
+/// Other sizes for the dataset under the key.
 pub(crate) fn set_dims(nodes: &mut Slab<Entry>, key: usize, dims: Dims)
-    ensures changed { (e : Kept) → kept_in nodes.old key ≡ Some e → kept_in nodes.new key ≡ Some (record { node = with_dims dims e.node; links = e.links }) }
+    ensures changed { (e : Kept) → kept_in nodes.old key ≡ Some e
+        → kept_in nodes.new key ≡ Some (record { node = with_dims dims e.node; links = e.links }) }
     ensures others { (k : ℕ) → k ≢ key → kept_in nodes.new k ≡ kept_in nodes.old k }
     ensures objects { objects_in nodes.new.slots ≡ objects_in nodes.old.slots }
 {

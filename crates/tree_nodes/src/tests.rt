@@ -33,13 +33,7 @@ fn superblock() -> Superblock {
 }
 
 /// One more node behind a new name of the root.
-fn add(
-    rt: &impl Abort,
-    alloc: Global,
-    tree: &mut ObjectTree,
-    name: &[u8],
-    node: Node,
-) -> Result<NodeId, Fail>
+fn add(alloc: Global, tree: &mut ObjectTree, name: &[u8], node: Node) -> Result<NodeId, Fail>
     requires { (x : Placed) × (ls : KeyedLinks) × Shows tree.old (Group x ls) }
     ensures shown { OnOk result ((x : Placed) × (ls : KeyedLinks) × Shows tree.new (Group x ls)) }
     ensures made { IfOk result (λ id. entry_of tree.new id.key ≡ Some (bare node)) }
@@ -47,22 +41,23 @@ fn add(
     let root = tree.root();
     let name = LinkName::from_slice(alloc, name)?;
     tree.reserve(root)?;
-    assert!(rt; tree.child(root, &name).is_none());
-    Ok(tree.insert(root, name, node))
+    match tree.child(root, &name) {
+        None => Ok(tree.insert(root, name, node)),
+        Some(_) => Err(Fail::new("the name is there")),
+    }
 }
 
 /// The name of the root and its node go.
-fn take(rt: &impl Abort, alloc: Global, tree: &mut ObjectTree, name: &[u8]) -> Result<(), Fail>
+fn take(alloc: Global, tree: &mut ObjectTree, name: &[u8]) -> Result<(), Fail>
     requires { (x : Placed) × (ls : KeyedLinks) × Shows tree.old (Group x ls) }
     ensures shown { OnOk result ((x : Placed) × (ls : KeyedLinks) × Shows tree.new (Group x ls)) }
 {
     let root = tree.root();
     let name = LinkName::from_slice(alloc, name)?;
-    let child = tree.child(root, &name).unwrap_or(root);
-    assert!(rt; child != root);
-    assert!(rt; tree.links(child) == 0);
-    tree.remove(root, &name);
-    assert!(rt; tree.child(root, &name).is_none());
+    match tree.child(root, &name) {
+        Some(child) if tree.links(child) == 0 => tree.remove(root, &name),
+        _ => return Err(Fail::new("the name is not there, or has links")),
+    }
     Ok(())
 }
 
@@ -98,13 +93,13 @@ fn small_tree(rt: HostRuntime) -> Result<(), Fail> {
         tree_at: 840,
         heap_at: 1384,
     };
-    add(&rt, alloc, &mut tree, b"m", inner)?;
+    add(alloc, &mut tree, b"m", inner)?;
     let text = Bytes::from_slice(alloc, b"/m")?;
-    add(&rt, alloc, &mut tree, b"to", Node::Soft { text })?;
-    add(&rt, alloc, &mut tree, b"a", Node::Other { header_at: 2000 })?;
+    add(alloc, &mut tree, b"to", Node::Soft { text })?;
+    add(alloc, &mut tree, b"a", Node::Other { header_at: 2000 })?;
     assert_eq!(rt; names(&rt, alloc, &tree)?.as_slice(), b"a m to ".as_slice());
     assert_eq!(rt; tree.objects(), 3);
-    take(&rt, alloc, &mut tree, b"m")?;
+    take(alloc, &mut tree, b"m")?;
     let data = Node::Dataset {
         header_at: 3000,
         shape: Shape {
@@ -120,13 +115,17 @@ fn small_tree(rt: HostRuntime) -> Result<(), Fail> {
         layout: Layout::Contiguous { at: 0, len: 6 },
         filtered: false,
     };
-    let id = add(&rt, alloc, &mut tree, b"b", data)?;
+    let id = add(alloc, &mut tree, b"b", data)?;
     assert_eq!(rt; names(&rt, alloc, &tree)?.as_slice(), b"a b to ".as_slice());
     assert_eq!(rt; tree.objects(), 3);
     tree.set_layout(id, Layout::Contiguous { at: 4096, len: 20 });
     tree.set_dims(id, Dims::from_slice(alloc, &[4, 5])?);
     match tree.node(id) {
-        Node::Dataset { shape, layout: Layout::Contiguous { at, len }, .. } => {
+        Node::Dataset {
+            shape,
+            layout: Layout::Contiguous { at, len },
+            ..
+        } => {
             assert_eq!(rt; (*at, *len), (4096, 20));
             assert_eq!(rt; shape.dims.as_slice(), [4, 5].as_slice());
             assert!(rt; shape.max.is_some());

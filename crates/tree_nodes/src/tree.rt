@@ -52,6 +52,7 @@ impl ObjectTree {
         })
     }
 
+    /// The file's superblock.
     pub fn superblock(&self) -> &Superblock
         ensures { result.now ≡ superblock_of self.now }
     {
@@ -87,7 +88,8 @@ impl ObjectTree {
     pub fn node(&self, id: NodeId) -> &Node
         requires { Has self.now id }
         ensures entry { (e : Kept) → entry_of self.now id.key ≡ Some e → result.now ≡ e.node }
-        ensures tree { (t u : Keyed) (p : List Name) → Shows self.now t → walk t p ≡ Ok u → key_of u ≡ id.key → result.now ≡ node_of u }
+        ensures tree { (t u : Keyed) (p : List Name) → Shows self.now t → walk t p ≡ Ok u → key_of u ≡ id.key
+            → result.now ≡ node_of u }
     {
         &self.entry(id).node
     }
@@ -96,7 +98,8 @@ impl ObjectTree {
     pub fn links(&self, id: NodeId) -> u64
         requires { Has self.now id }
         ensures entry { (e : Kept) → entry_of self.now id.key ≡ Some e → result ≡ length e.links }
-        ensures tree { (t u : Keyed) (p : List Name) → Shows self.now t → walk t p ≡ Ok u → key_of u ≡ id.key → result ≡ length (links_of u) }
+        ensures tree { (t u : Keyed) (p : List Name) → Shows self.now t → walk t p ≡ Ok u → key_of u ≡ id.key
+            → result ≡ length (links_of u) }
     {
         self.entry(id).links.len() as u64
     }
@@ -105,7 +108,8 @@ impl ObjectTree {
     pub fn child(&self, id: NodeId, name: &LinkName) -> Option<NodeId>
         requires { Has self.now id }
         ensures entry { (e : Kept) → entry_of self.now id.key ≡ Some e → AreOrdered (link_names e.links) → result ≡ find_link e.links name.now }
-        ensures tree { (t u : Keyed) (p : List Name) → Shows self.now t → walk t p ≡ Ok u → key_of u ≡ id.key → result ≡ child_id u name.now }
+        ensures tree { (t u : Keyed) (p : List Name) → Shows self.now t → walk t p ≡ Ok u → key_of u ≡ id.key
+            → result ≡ child_id u name.now }
     {
         places::find(&self.entry(id).links, name)
     }
@@ -114,7 +118,8 @@ impl ObjectTree {
     pub fn child_at(&self, id: NodeId, k: u64) -> Option<&ChildLink>
         requires { Has self.now id }
         ensures entry { (e : Kept) → entry_of self.now id.key ≡ Some e → option_copied result ≡ slice_get e.links k }
-        ensures tree { (t u : Keyed) (p : List Name) → Shows self.now t → walk t p ≡ Ok u → key_of u ≡ id.key → option_copied result ≡ slice_get (links_of u) k }
+        ensures tree { (t u : Keyed) (p : List Name) → Shows self.now t → walk t p ≡ Ok u → key_of u ≡ id.key
+            → option_copied result ≡ slice_get (links_of u) k }
     {
         places::link_at(&self.entry(id).links, k as usize)
     }
@@ -137,7 +142,8 @@ impl ObjectTree {
         requires room { HasRoom self.old id }
         requires lacks { LacksLink self.old id name }
         ensures entry { Inserts self.old self.new id.key name result.key node }
-        ensures tree { (t u : Keyed) (p : List Name) → Shows self.old t → walk t p ≡ Ok u → key_of u ≡ id.key → Shows self.new (edit p (relink (λ ls. insert ls name (single result.key node))) t) }
+        ensures tree { (t u : Keyed) (p : List Name) → Shows self.old t → walk t p ≡ Ok u → key_of u ≡ id.key
+            → Shows self.new (edit p (relink (λ ls. insert ls name (single result.key node))) t) }
     {
         let added = u64::from(node.is_object());
         let key = slots::add_node(self.alloc, &mut self.nodes, node);
@@ -152,8 +158,10 @@ impl ObjectTree {
         requires { HasLooseLink self.old id name.now }
         ensures superblock { superblock_of self.new ≡ superblock_of self.old }
         ensures root { root_of self.new ≡ root_of self.old }
-        ensures entry { (e : Kept) (child : NodeId) → entry_of self.old id.key ≡ Some e → AreOrdered (link_names e.links) → find_link e.links name.now ≡ Some child → Removes self.old self.new id.key name.now child.key }
-        ensures tree { (t u : Keyed) (p : List Name) → Shows self.old t → walk t p ≡ Ok u → key_of u ≡ id.key → Shows self.new (edit p (relink (λ ls. remove ls name.now)) t) }
+        ensures entry { (e : Kept) (child : NodeId) → entry_of self.old id.key ≡ Some e → AreOrdered (link_names e.links)
+            → find_link e.links name.now ≡ Some child → Removes self.old self.new id.key name.now child.key }
+        ensures tree { (t u : Keyed) (p : List Name) → Shows self.old t → walk t p ≡ Ok u → key_of u ≡ id.key
+            → Shows self.new (edit p (relink (λ ls. remove ls name.now)) t) }
     {
         if let Some(child) = slots::unlink(&mut self.nodes, id.key, name) {
             let gone = u64::from(slots::remove_node(&mut self.nodes, child.key));
@@ -165,7 +173,8 @@ impl ObjectTree {
     pub fn set_layout(&mut self, id: NodeId, layout: Layout)
         requires { HasDataset self.old id }
         ensures entry { Sets self.old self.new id.key (with_layout layout) }
-        ensures tree { (t u : Keyed) (p : List Name) → Shows self.old t → walk t p ≡ Ok u → key_of u ≡ id.key → Shows self.new (edit p (on_leaf (with_layout layout)) t) }
+        ensures tree { (t u : Keyed) (p : List Name) → Shows self.old t → walk t p ≡ Ok u → key_of u ≡ id.key
+            → Shows self.new (edit p (on_leaf (with_layout layout)) t) }
     {
         slots::set_layout(&mut self.nodes, id.key, layout);
     }
@@ -174,7 +183,8 @@ impl ObjectTree {
     pub fn set_dims(&mut self, id: NodeId, dims: Dims)
         requires { HasDataset self.old id }
         ensures entry { Sets self.old self.new id.key (with_dims dims) }
-        ensures tree { (t u : Keyed) (p : List Name) → Shows self.old t → walk t p ≡ Ok u → key_of u ≡ id.key → Shows self.new (edit p (on_leaf (with_dims dims)) t) }
+        ensures tree { (t u : Keyed) (p : List Name) → Shows self.old t → walk t p ≡ Ok u → key_of u ≡ id.key
+            → Shows self.new (edit p (on_leaf (with_dims dims)) t) }
     {
         slots::set_dims(&mut self.nodes, id.key, dims);
     }
