@@ -11,7 +11,7 @@ use Rattle.outside.specs.Space.{SpaceView, LiesIn, bounds_of}
 abbrev pub classes : List MemClass
 classes = Super ∷ Tree ∷ Raw ∷ GlobalHeap ∷ LocalHeap ∷ Header ∷ []
 
--- what holds of no class of the list holds of none
+-- what holds at each place of the list holds of each class
 pub every_class : (P : MemClass → Type 0) → AllWithin P classes 0 (length classes) → (c : MemClass) → P c
 every_class P all Super = all 0 Super (omega arith) (omega arith)
 every_class P all Tree = all 1 Super (omega arith) (omega arith)

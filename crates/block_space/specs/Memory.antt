@@ -1,6 +1,6 @@
 -- What the space in memory of this crate's tests tells: two regions, one of them for the elements of datasets.
 -- Cited by that space.
-use Rattle.std.specs.Prelude.{◌≡◌, ◌⊎◌, ℕ, ◌+◌, ◌^◌, ◌<◌, ◌≤◌, false, List, [], None}
+use Rattle.std.specs.Prelude.{◌≡◌, ◌⊎◌, ℕ, ◌+◌, ◌^◌, ◌<◌, ◌≤◌, true, List, [], None}
 use Rattle.std.proofs.Common.{inl, inr, refl, arith}
 use Rattle.h5_base.specs.declared.extent.MemClass.{MemClass}
 use Rattle.h5_base.specs.declared.extent.MemClass.TheVariants.{Raw}
@@ -16,9 +16,9 @@ abbrev pub end_of : Ends
 end_of Raw = 150
 end_of _ = 50
 
--- the bytes from address 0 on; it cannot be written
+-- the bytes from address 0 on; no range is given to be written
 abbrev pub view_of : List ℕ → SpaceView
-view_of bytes = record { array = array_of bytes; ends = end_of; regions = region_of; writable = false; prepared = []; committed = None }
+view_of bytes = record { array = array_of bytes; ends = end_of; regions = region_of; writable = true; prepared = []; committed = None }
 
 low : (c : MemClass) → (region_of c).start ≤ end_of c
 low Raw = omega arith

@@ -1,4 +1,4 @@
-// A small space in memory, which cannot be written.
+// A small space in memory, each write of which is a fault.
 ghost use Rattle.std.specs.Prelude.{◌≡◌};
 
 use h5_base::{Comment, Extent, MemClass, NoMemory, Region};
@@ -8,6 +8,9 @@ use outside::{CommitAnswer, CommitStop, Failed, Kept, Space, WriteStop};
 #[derive(Drop)]
 pub struct MemorySpace {
     pub bytes: Vec<u8>,
+
+    /// How many of its calls have failed.
+    pub faults: u64,
 }
 
 impl Kept for MemorySpace {
@@ -33,7 +36,7 @@ impl Space for MemorySpace {
 
     ghost Stands = { λ _. Unit {0} };
 
-    ghost faults = { λ _. 0 };
+    ghost faults = { λ s. s.faults };
 
     ghost copy_faults = { λ _. 0 };
 
@@ -53,10 +56,12 @@ impl Space for MemorySpace {
     }
 
     fn write(&mut self, _: u64, _: &[u8]) -> Result<(), WriteStop> {
+        self.faults = self.faults.saturating_add(1);
         Err(WriteStop::Failed)
     }
 
     fn raise(&mut self, _: MemClass, _: u64) -> Result<(), WriteStop> {
+        self.faults = self.faults.saturating_add(1);
         Err(WriteStop::Failed)
     }
 
@@ -65,6 +70,7 @@ impl Space for MemorySpace {
     }
 
     fn settle(&mut self) -> Result<(), WriteStop> {
+        self.faults = self.faults.saturating_add(1);
         Err(WriteStop::Failed)
     }
 
@@ -89,7 +95,7 @@ impl Space for MemorySpace {
     }
 
     fn writable(&self) -> bool {
-        false
+        true
     }
 
     fn has_onion(&self) -> bool {
@@ -105,6 +111,7 @@ impl Space for MemorySpace {
     }
 
     fn commit(&mut self, _: &Comment, _: i64) -> Result<CommitAnswer, CommitStop> {
+        self.faults = self.faults.saturating_add(1);
         Err(CommitStop::Failed)
     }
 

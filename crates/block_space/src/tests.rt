@@ -9,7 +9,7 @@ fn blocks(alloc: Global) -> Result<Blocks<MemorySpace>, Fail> {
     for address in 0..=255u8 {
         bytes.push(address)?;
     }
-    Ok(Blocks::new(alloc, MemorySpace { bytes }))
+    Ok(Blocks::new(alloc, MemorySpace { bytes, faults: 0 }))
 }
 
 /// Regions are the addresses below 50 and from 100 on below 150.
