@@ -14,7 +14,7 @@ use Rattle.file_model.specs.Headers.{Part, IsHeader, header_blocks, messages_of,
 use Rattle.file_model.specs.Objects.{DataInfo, has, IsGroupHeader, IsDataHeader}
 use Rattle.file_model.specs.Groups.{Ks, Found, Target, Header, Text, HasLinks}
 use Rattle.file_model.specs.Holds.{GroupAt, DataAt, OtherAt, LeafAt, DataLeaf, SoftLeaf, OtherLeaf, Full, FullLinks, IsGroup, IsData, IsUnknown, Unsupported, Later, IsHeld, AreHeld, IsLeafHeld, founds, target_of, leaf_target, leaf_blocks, blocks_of, blocks_in, ks_of, IsDriver, HasDriver, HoldsFull, super_bytes_of}
-use Rattle.file_model.specs.Limits.{most_depth, most_objects, most_header, header_bytes, IsShort, depth_of, depth_in, objects_of, objects_in, leaf_objects, Fits, AllFit, LeafFits, IsWithinLimits}
+use Rattle.file_model.specs.Limits.{most_depth, most_objects, most_header, header_bytes, IsShort, depth_to, depth_in, objects_of, objects_in, leaf_objects, Fits, AllFit, LeafFits, IsWithinLimits}
 use Rattle.file_model.specs.Refusals.{Refusal, IsBlockRefused, IsHeaderRefused, LaterHeader, PrefixBlock, NoPrefix, LargeFirst, HeaderBlock, InMessages}
 use Rattle.file_model.specs.RefusedGroups.{IsTableRefused}
 use Rattle.file_model.specs.RefusedChunks.{IsStorageRefused}
@@ -82,10 +82,10 @@ group_table b e ks g fs met later p ps tree heap r h fits room k table refused =
 -- an object that is held, with so many levels for it and all below it
 abbrev NotAt : Array → Bounds → Ks → ℕ → Type 0
 NotAt b e ks levels = (t : Full) (objects : ℕ) (met later : List Block) (at : ℕ) (r : Refusal) → IsHeld b ks t → target_of t ≡ Header at → Room e met (blocks_of t ++ later)
-    → depth_of t + 1 ≤ levels → objects + objects_of t ≤ most_objects → Fits b t → IsObjectRefused b e ks levels objects met at r → ⊥
+    → depth_to t ≤ levels → objects + objects_of t ≤ most_objects → Fits b t → IsObjectRefused b e ks levels objects met at r → ⊥
 
 target_not : (b : Array) (e : Bounds) (ks : Ks) (levels : ℕ) → NotAt b e ks levels → (t : Full) (objects : ℕ) (met later : List Block) (r : Refusal) (target : Target) → target_of t ≡ target → IsHeld b ks t → Room e met (blocks_of t ++ later)
-    → depth_of t + 1 ≤ levels → objects + objects_of t ≤ most_objects → Fits b t → IsTargetRefused (IsObjectRefused b e ks levels) objects met target r → ⊥
+    → depth_to t ≤ levels → objects + objects_of t ≤ most_objects → Fits b t → IsTargetRefused (IsObjectRefused b e ks levels) objects met target r → ⊥
 target_not b e ks levels not t objects met later r (Header at) is h room deep few fits refused = not t objects met later at r h is room deep few fits refused
 target_not b e ks levels not t objects met later r (Text text) is h room deep few fits refused = refused
 
@@ -173,7 +173,10 @@ other_not b e ks levels o objects met later r (Later h) room few short (InStorag
 other_not b e ks levels o objects met later r h room few short (InLinks g' fs at k x) = group_no_leaf b ks g' fs (OtherLeaf o) k h (ap Header at)
 
 object_not : (b : Array) (e : Bounds) (ks : Ks) (levels : ℕ) → NotAt b e ks levels
-object_not b e ks zero t objects met later at r h target room deep few fits refused = omega (arith, deep)
+object_not b e ks zero (Group g ls) objects met later at r h target room deep few fits refused = omega (arith, deep)
+object_not b e ks zero (Leaf (DataLeaf d)) objects met later at r h target room deep few fits refused = omega (arith, deep)
+object_not b e ks zero (Leaf (SoftLeaf text)) objects met later at r h target room deep few fits refused = cc
+object_not b e ks zero (Leaf (OtherLeaf o)) objects met later at r h target room deep few fits refused = omega (arith, deep)
 object_not b e ks (suc levels) (Group g ls) objects met later at r h target room deep few fits refused =
     group_not b e ks levels (object_not b e ks levels) g ls objects met later r h room (omega (arith, deep)) few fits
     (subst (λ (n : ℕ). IsRefusedWith (IsObjectRefused b e ks levels) b e ks objects met n r) (sym (header_is g.header_at at target)) refused)

@@ -27,21 +27,22 @@ most_header = 1048576
 abbrev pub most_segment : ℕ
 most_segment = 16777216
 
--- how many links lead down to the deepest object
-abbrev mutual
-  pub depth_of : Full → ℕ
-  depth_of (Group g ls) = depth_in ls
-  depth_of (Leaf l) = 0
-
-  pub depth_in : FullLinks → ℕ
-  depth_in Empty = 0
-  depth_in (Link n t rest) = max (depth_of t + 1) (depth_in rest)
-
 -- soft links are no objects
 abbrev pub leaf_objects : LeafAt → ℕ
 leaf_objects (DataLeaf d) = 1
 leaf_objects (SoftLeaf text) = 0
 leaf_objects (OtherLeaf o) = 1
+
+-- How many links lead down to the deepest object of what a link leads to, that link counted; and how many from a group down
+-- to the deepest object below it.
+abbrev mutual
+  pub depth_to : Full → ℕ
+  depth_to (Group g ls) = depth_in ls + 1
+  depth_to (Leaf l) = leaf_objects l
+
+  pub depth_in : FullLinks → ℕ
+  depth_in Empty = 0
+  depth_in (Link n t rest) = max (depth_to t) (depth_in rest)
 
 -- all groups, datasets and others
 abbrev mutual
@@ -78,9 +79,9 @@ abbrev mutual
   AllFit b Empty = Unit {0}
   AllFit b (Link n t rest) = Fits b t × AllFit b rest
 
--- A tree that is opened; `blocks` are all of the file.
+-- A tree that is opened; `blocks` are all of the file. The root has depth 0, so that what leads to it counts one more.
 pub record IsWithinLimits (b : Array) (blocks : List Block) (t : Full) : Type 0 where
-  pub depth : depth_of t ≤ most_depth
+  pub depth : depth_to t ≤ most_depth + 1
   pub objects : objects_of t ≤ most_objects
   pub block_count : length blocks ≤ most_blocks
   pub parts : Fits b t
