@@ -6,8 +6,9 @@ use Rattle.h5_base.specs.Fields.{u64_at}
 use Rattle.h5_base.specs.declared.extent.Extent.{Extent}
 use Rattle.h5_base.specs.declared.kinds.BlockKind.TheVariants as kind
 use Rattle.h5_base.specs.declared.kinds.What.TheVariants as what
+use Rattle.header_codec.specs.Headers.{SpellsPrefix}
 use Rattle.header_codec.specs.declared.types.Prefix.{Prefix}
-use Rattle.outside.specs.Array.{Array}
+use Rattle.outside.specs.Array.{Array, bytes_of}
 use Rattle.outside.specs.Blocks.{Block, Bounds}
 use Rattle.file_model.specs.Headers.{Met, Stand, after, IsWhole, AreWhole, continued, Part, IsRead, AreMet, first_block, messages_of}
 use Rattle.file_model.specs.Limits.{header_bytes, most_header}
@@ -72,6 +73,10 @@ pub record IsWalked (tells : Bool) (b : Array) (at : ℕ) (prefix : Prefix) (par
   pub whole : AreWhole (messages_of parts)
   pub total : walk.total ≡ header_bytes at prefix parts
   pub short : walk.total ≤ most_header
+
+-- The bytes at an address begin with this prefix.
+pub record HasPrefix (b : Array) (at : ℕ) (prefix : Prefix) : Type 0 where
+  pub spelled : SpellsPrefix prefix (bytes_of b at 16)
 
 -- All messages of a header were met, and these are the first of them.
 pub record IsGathered (b : Array) (at : ℕ) (prefix : Prefix) (messages : Firsts) (parts : List Part) : Type 0 where

@@ -16,6 +16,7 @@ use outside::Space;
 pub(crate) fn first_len(at: u64) -> usize
     ensures fits { at + result ≤ 2 ^ 64 }
     ensures whole { at + 16 ≤ 2 ^ 64 → result ≡ 16 }
+    ensures most { result ≤ 16 }
     ensures four { at + 4 ≤ 2 ^ 64 → 4 ≤ result }
 {
     if at <= u64::MAX - 15 {

@@ -1,6 +1,4 @@
 ghost use Rattle.std.specs.Prelude.{◌≡◌, ◌+◌, ◌^◌, ◌<◌, ◌≤◌, ◌++◌, ◌∷◌, [], ℕ, List, Option, IsTrue, IfOk, IfErr, IfSome, OnOk, IsErrOf};
-ghost use Rattle.header_codec.specs.Headers.{SpellsPrefix};
-ghost use Rattle.outside.specs.Array.{bytes_of};
 ghost use Rattle.outside.specs.Blocks.{Block};
 ghost use Rattle.outside.specs.Causes.{Rose};
 ghost use Rattle.outside.specs.Space.{bounds_of};
@@ -9,7 +7,7 @@ ghost use Rattle.block_reader.specs.Stops.{refusal_of};
 ghost use Rattle.file_model.specs.Headers.{Part, header_blocks};
 ghost use Rattle.file_model.specs.Refusals.{IsMessageRefused, IsHeaderRefused};
 ghost use Rattle.header_reader.specs.Found.{IsFound};
-ghost use Rattle.header_reader.specs.Walks.{IsGathered};
+ghost use Rattle.header_reader.specs.Walks.{HasPrefix, IsGathered};
 
 use crate::first::{first_len, is_later, no_prefix};
 use crate::walk::{MOST_BYTES, Walk};
@@ -79,9 +77,9 @@ fn read_known<V: Space>(
 ) -> Result<Header, TreeStop>
     requires stands { V.Stands (space_of blocks.old) }
     requires listed { (met : List Block) × Keeps V.view blocks.old met }
-    ensures found { IsTrue V.tells → SpellsPrefix prefix (bytes_of (V.view (space_of blocks.old)).array at 16) → IfOk result (λ x. (met : List Block) → Keeps V.view blocks.old met
+    ensures found { IsTrue V.tells → HasPrefix (V.view (space_of blocks.old)).array at prefix → IfOk result (λ x. (met : List Block) → Keeps V.view blocks.old met
         → (bs : List Block) × IsFound (V.view (space_of blocks.old)).array at x bs × Keeps V.view blocks.new (met ++ bs)) }
-    ensures refused { IsTrue V.tells → SpellsPrefix prefix (bytes_of (V.view (space_of blocks.old)).array at 16)
+    ensures refused { IsTrue V.tells → HasPrefix (V.view (space_of blocks.old)).array at prefix
         → IfErr result (λ stop. (met : List Block) (own : Option (List ℕ)) → Keeps V.view blocks.old met
             → IfSome (refusal_of stop) (IsHeaderRefused (V.view (space_of blocks.old)).array (bounds_of (V.view (space_of blocks.old)) own) met at)) }
     ensures alike { V.Alike (space_of blocks.old) (space_of blocks.new) }
@@ -132,10 +130,10 @@ pub fn read_header<V: Space>(
         Err(stop) => return Err(stop),
     };
     if is_later(first.as_slice()) {
-        return match adopt(blocks, at, 4, BlockKind::Header) {
-            Ok(()) => Ok(Header::Later),
-            Err(stop) => Err(stop),
-        };
+        if let Err(stop) = adopt(blocks, at, 4, BlockKind::Header) {
+            return Err(stop);
+        }
+        return Ok(Header::Later);
     }
     match read_prefix(first.as_slice()) {
         Some(prefix) => read_known(alloc, blocks, at, prefix),
