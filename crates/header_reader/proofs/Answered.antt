@@ -1,5 +1,5 @@
 -- What is answered of a header, by its first bytes and by its messages.
-use Rattle.std.proofs.Common.{◌≡◌, ◌⊎◌, ℕ, ◌+◌, ◌^◌, ◌<◌, ◌≤◌, List, [], ◌∷◌, ◌++◌, length, take, Option, IfSome, Result, Ok, Err, IfOk, IfErr, refl, sym, ◌∙◌, ap, subst, arith, inl, inr}
+use Rattle.std.proofs.Common.{◌≡◌, ◌⊎◌, ℕ, ◌+◌, ◌^◌, ◌<◌, ◌≤◌, List, [], ◌∷◌, ◌++◌, length, take, Bool, true, false, IsTrue, Option, Some, None, IfSome, Result, Ok, Err, IfOk, IfErr, refl, sym, ◌∙◌, ap, subst, arith, inl, inr}
 use Rattle.std.proofs.lemmas.Bool.{cases_lt, cases_eq}
 use Rattle.std.proofs.lemmas.List.FromFn.{length-map-range_with_len, take-map-range_with_len}
 use Rattle.outside.specs.Array.{Array, bytes_of}
@@ -113,3 +113,21 @@ prefix_refused v own met at n items r sound all first later none (inl h) = go (c
     go : (2 ^ 64 < at + 4) ⊎ (at + 4 ≤ 2 ^ 64) → IsHeaderRefused v.array (bounds_of v own) met at r
     go (inl lt) = high lt (decide (bytes_of v.array at 4) later_header)
     go (inr le) = PrefixBlock (not_later v.array at n items first later (first.four le)) h
+
+pub later_refused : (v w : SpaceView) (own : Option (List ℕ)) (met : List Block) (at : ℕ) (r : Refusal) → v ≡ w → bytes_of v.array at 4 ≡ later_header
+    → IsBlockRefused (bounds_of w own) met (record { start = at; len = 4 }) kind.Header r → IsHeaderRefused v.array (bounds_of v own) met at r
+later_refused v w own met at r same is refused = LaterHeader is (subst (λ (y : SpaceView). IsBlockRefused (bounds_of y own) met (record { start = at; len = 4 }) kind.Header r) (sym same) refused)
+
+pub refused_back : (v w : SpaceView) (own : Option (List ℕ)) (met : List Block) (at : ℕ) (r : Refusal) → v ≡ w → IsHeaderRefused w.array (bounds_of w own) met at r → IsHeaderRefused v.array (bounds_of v own) met at r
+refused_back v w own met at r same refused = subst (λ (y : SpaceView). IsHeaderRefused y.array (bounds_of y own) met at r) (sym same) refused
+
+pub first_on : (v w : SpaceView) (at n : ℕ) (items : List ℕ) → v ≡ w → AreFirst v.array at n items → AreFirst w.array at n items
+first_on v w at n items same h = subst (λ (y : SpaceView). AreFirst y.array at n items) same h
+
+pub none_later : (items seen : List ℕ) (t : Bool) → seen ≡ items → t ≡ false → ((4 ≤ length seen) × (take 4 seen ≡ later_header) → IsTrue t) → (4 ≤ length items) × (take 4 items ≡ later_header) → ⊥
+none_later items seen t same is h later =
+    let e : t ≡ true = h (subst (λ (l : List ℕ). (4 ≤ length l) × (take 4 l ≡ later_header)) (sym same) later) in
+    cc
+
+pub none_spelled : (items seen : List ℕ) → seen ≡ items → ((p : Prefix) → SpellsPrefix p seen → None ≡ Some p) → (p : Prefix) → SpellsPrefix p items → ⊥
+none_spelled items seen same h p spelled = let e : None ≡ Some p = h p (subst (SpellsPrefix p) (sym same) spelled) in cc

@@ -58,7 +58,7 @@ parts-preserved g c =
       parts = inv.parts ++ record { block = x; messages = found.0 } ∷ [];
       walked = walked_more g.V.Space.tells _ c.args.at c.args.prefix inv.parts old mid c.read_part.new.self x found.0 inv.walked takes c.parts-test.true
           (read_same g.V.Space.tells _ _ x mid.wanted found.0 (g.met.V.Space.alike _ _ inv.alike) found.1) found.2 found.3;
-      kept = λ met keeps. kept_part g.V.Space.view c.parts.blocks c.read_part.new.blocks c.args.at c.args.prefix inv.parts x found.0 met (inv.kept met keeps) found.4;
+      kept = λ met keeps. kept_part g.V.Space.view _ _ c.args.at c.args.prefix inv.parts x found.0 met (inv.kept met keeps) found.4;
       listed = ok.listed;
       alike = g.V.Kept.transitive _ _ _ inv.alike ok.alike;
       stands = ok.stands (λ e. cc);
