@@ -40,7 +40,7 @@ pub(crate) fn no_prefix<V: Space>(blocks: &mut Blocks<V>, at: u64) -> TreeStop
     requires listed { (met : List Block) × Keeps V.view blocks.old met }
     ensures refused { (met : List Block) (own : Option (List ℕ)) → Keeps V.view blocks.old met
         → IfSome (refusal_of result) (λ r. IsBlockRefused (bounds_of (V.view (space_of blocks.old)) own) met (record { start = at; len = 16 }) block_kind.Header r
-            ⊎ ((at + 16 < 2 ^ 64) × (r ≡ Malformed at block_kind.Header))) }
+        ⊎ ((at + 16 < 2 ^ 64) × (r ≡ Malformed at block_kind.Header))) }
     ensures no_fault { result ≡ TreeStop.Failed → ⊥ }
     ensures space { space_of blocks.new ≡ space_of blocks.old }
 {

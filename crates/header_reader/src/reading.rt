@@ -81,7 +81,7 @@ fn read_known<V: Space>(
         → (bs : List Block) × IsFound (V.view (space_of blocks.old)).array at x bs × Keeps V.view blocks.new (met ++ bs)) }
     ensures refused { IsTrue V.tells → HasPrefix (V.view (space_of blocks.old)).array at prefix
         → IfErr result (λ stop. (met : List Block) (own : Option (List ℕ)) → Keeps V.view blocks.old met
-            → IfSome (refusal_of stop) (IsHeaderRefused (V.view (space_of blocks.old)).array (bounds_of (V.view (space_of blocks.old)) own) met at)) }
+        → IfSome (refusal_of stop) (IsHeaderRefused (V.view (space_of blocks.old)).array (bounds_of (V.view (space_of blocks.old)) own) met at)) }
     ensures alike { V.Alike (space_of blocks.old) (space_of blocks.new) }
     ensures stands { (IsErrOf result TreeStop.Failed → ⊥) → V.Stands (space_of blocks.new) }
     ensures listed { OnOk result ((met : List Block) × Keeps V.view blocks.new met) }
