@@ -116,7 +116,7 @@ messages_split before rest part ms tail is =
     flat_map-append (λ p. p.messages) before (part ∷ rest) ∙ ap (λ (l : List Met). messages_of before ++ (l ++ messages_of rest)) is
     ∙ ap (λ (l : List Met). messages_of before ++ l) (append_assoc ms tail (messages_of rest))
 
-messages_so_far : (before : List Part) (block : Block) (ms : List Met) → messages_of (before ++ record { block = block; messages = ms } ∷ []) ≡ messages_of before ++ ms
+pub messages_so_far : (before : List Part) (block : Block) (ms : List Met) → messages_of (before ++ record { block = block; messages = ms } ∷ []) ≡ messages_of before ++ ms
 messages_so_far before block ms = flat_map-append (λ p. p.messages) before (record { block = block; messages = ms } ∷ []) ∙ ap (λ (l : List Met). messages_of before ++ l) (append-nil ms)
 
 -- the header's blocks are those that were met so far, and those that come

@@ -1,0 +1,52 @@
+-- A block that passes the last address is refused beside those that were met for the same reason, however long it is.
+use Rattle.std.proofs.Common.{◌≡◌, ◌⊎◌, ℕ, ◌+◌, ◌^◌, ◌<◌, ◌≤◌, List, [], ◌∷◌, Option, refl, sym, subst, arith, inl, inr}
+use Rattle.std.specs.List.{Contains}
+use Rattle.outside.specs.Blocks.{Block, Bounds, BlockFault, TooMany, LinkedTwice, Overlap, Outside, AreApart, IsApart, IsInside, AllInside, IsFault}
+use Rattle.outside.specs.Space.{SpaceView, AreRegions, bounds_of}
+use Rattle.h5_base.specs.declared.kinds.BlockKind.{BlockKind}
+use Rattle.file_model.specs.Refusals.{Refusal, IsBlockRefused}
+use Rattle.file_model.proofs.NoFault.{contains_cases, no_element}
+
+inside_of : (e : Bounds) (met : List Block) (y : Block) → AllInside e met → Contains met y → IsInside e y
+inside_of e [] y h c = absurd (no_element y c)
+inside_of e (m ∷ ms) y h c = elim (contains_cases m ms y c) [
+  | inl is ↦ subst (IsInside e) is h.0
+  | inr rest ↦ inside_of e ms y h.1 rest
+]
+
+-- what lies inside ends below 2^64
+ends_low : (v : SpaceView) (own : Option (List ℕ)) (y : Block) → AreRegions v → IsInside (bounds_of v own) y → y.start + y.len < 2 ^ 64
+ends_low v own y sound inside =
+    let high = inside.2 in
+    let limit = sound.high inside.0 in
+    let small = sound.fits inside.0 in
+    omega (arith, high, limit, small)
+
+apart_less : (at n m : ℕ) (ys : List Block) → m ≤ n → IsApart (record { start = at; len = n }) ys → IsApart (record { start = at; len = m }) ys
+apart_less at n m [] le h = tt
+apart_less at n m (y ∷ ys) le h = (one h.0, apart_less at n m ys le h.1)
+  where
+    one : AreApart (record { start = at; len = n }) y → AreApart (record { start = at; len = m }) y
+    one (inl a) = inl (omega (arith, a, le))
+    one (inr a) = inr a
+
+pub refused_less : (v : SpaceView) (own : Option (List ℕ)) (met : List Block) (at n m : ℕ) (kind : BlockKind) (r : Refusal) → AreRegions v → AllInside (bounds_of v own) met → 2 ^ 64 ≤ at + m → m ≤ n
+    → IsBlockRefused (bounds_of v own) met (record { start = at; len = n }) kind r → IsBlockRefused (bounds_of v own) met (record { start = at; len = m }) kind r
+refused_less v own met at n m kind r sound all high le h = record { fault = h.fault; is_fault = go h.fault h.is_fault; line = h.line }
+  where
+    go : (f : BlockFault) → IsFault (bounds_of v own) met (record { start = at; len = n }) f → IsFault (bounds_of v own) met (record { start = at; len = m }) f
+    go TooMany f = f
+    go (LinkedTwice k) f = f
+    go (Overlap k) f =
+        let low = ends_low v own f.2.other sound (inside_of (bounds_of v own) met f.2.other all f.2.one) in
+        let behind = f.2.share.in_second in (
+          f.0,
+          f.1,
+          record {
+            other = f.2.other;
+            one = f.2.one;
+            share = record { greater = f.2.share.greater; in_first = omega (arith, low, behind, high); in_second = behind };
+            least = λ y k c s. f.2.least y k c (record { greater = s.greater; in_first = let inside = s.in_first in omega (arith, inside, le); in_second = s.in_second });
+          },
+        )
+    go Outside f = (f.0, f.1, apart_less at n m met le f.2, λ inside. let low = ends_low v own (record { start = at; len = m }) sound inside in omega (arith, low, high))

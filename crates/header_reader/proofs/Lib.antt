@@ -1,0 +1,4 @@
+pub mod Following
+pub mod Answered
+pub mod High
+pub mod Parts

@@ -1,0 +1,20 @@
+-- Each stop of the header's own block or of its messages refuses the header.
+use Rattle.std.proofs.Common.{◌≡◌, ap, sym, arith}
+use Rattle.outside.specs.Space.{SpaceView}
+use Rattle.header_reader.proofs.Following.{if_some}
+use Rattle.header_reader.proofs.Answered.{large_first, header_block, in_messages}
+use Rattle.header_reader.proofs.reading.read_known.Goals as goal
+
+pub returns-then-len-gt-MOST_BYTES-clause-refused : goal.returns-then-len-gt-MOST_BYTES-clause-refused
+returns-then-len-gt-MOST_BYTES-clause-refused g c =
+    λ told prefix met own keeps. large_first (g.V.Space.view c.args.blocks.now.space) own met c.args.at c.args.prefix prefix (omega (arith, c.from-len.ensures, c.if-len-gt-MOST_BYTES.true))
+
+pub returns-in-Err-clause-refused : goal.returns-in-Err-clause-refused
+returns-in-Err-clause-refused g c =
+    λ told prefix met own keeps. if_some _ _ _ (λ r h. header_block (g.V.Space.view c.args.blocks.now.space) own met c.args.at c.args.prefix r prefix h) (rw c.from-len.ensures at (c.in-Err.ensures.refused met own keeps))
+
+pub returns-in-Err-gather-clause-refused : goal.returns-in-Err-gather-clause-refused
+returns-in-Err-gather-clause-refused g c =
+    λ told prefix met own keeps. let same : g.V.Space.view c.args.blocks.now.space ≡ g.V.Space.view c.adopt.new.blocks.space = ap g.V.Space.view (sym c.adopt.ensures.space) in
+    if_some _ _ _ (λ r h. in_messages (g.V.Space.view c.args.blocks.now.space) (g.V.Space.view c.adopt.new.blocks.space) own met c.args.at c.args.prefix r same prefix h)
+    (c.in-Err-gather.ensures.refused told met own (rw c.from-len.ensures at (c.in_default.ensures.found met keeps)))

@@ -1,0 +1,27 @@
+use Rattle.std.proofs.Common.{◌≡◌, ◌+◌, ◌-◌, refl, arith, slice_range}
+use Rattle.file_model.specs.Headers.{Met}
+use Rattle.header_reader.specs.declared.walk.Walk.{Walk}
+use Rattle.header_reader.proofs.Following.{if_some, message_met, message_end, step_refused, meets_one}
+use Rattle.header_reader.proofs.walk.Walk.meet_at.Goals as goal
+
+pub returns-in-Err-clause-refused : goal.returns-in-Err-clause-refused
+returns-in-Err-clause-refused g c =
+    λ met own keeps. let message = c.in-Some.message in
+    let m : Met = record { kind = message.kind; flags = message.flags; body = slice_range c.args.bytes.now message.at (message.at + message.len) } in
+    let here = message_met c.args.bytes.now c.args.place message m.body c.in-Some.ensures.found refl c.in-Some.ensures.whole in
+    if_some _ _ _ (λ r h. step_refused _ met c.args.self.now.total c.args.start c.args.bytes.now c.args.place m r here h) (c.in-Err.ensures.refused met own keeps)
+
+pub returns-clause-found : goal.returns-clause-found
+returns-clause-found g c =
+    let message = c.in-Some.message in
+    let m : Met = record { kind = message.kind; flags = message.flags; body = slice_range c.args.bytes.now message.at (message.at + message.len) } in
+    let here = message_met c.args.bytes.now c.args.place message m.body c.in-Some.ensures.found refl c.in-Some.ensures.whole in
+    let ok = c.in_default-follow.ensures in
+    let one : c.follow.new.self.wanted - 1 + 1 ≡ c.args.self.now.wanted = omega (arith, c.follow.ensures.wanted, c.requires.wanted) in
+    let new : Walk = record { messages = c.meet.new.self; waiting = c.follow.new.self.waiting; wanted = c.follow.new.self.wanted - 1; total = c.follow.new.self.total } in (
+      m,
+      here,
+      message_end c.args.bytes.now c.args.place message m c.in-Some.ensures.found here,
+      meets_one c.args.self.now c.follow.new.self new m c.follow.ensures.messages c.in_ok-meet.ensures.ok ok.waiting one ok.total ok.short,
+      ok.kept,
+    )

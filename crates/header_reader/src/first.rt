@@ -1,0 +1,54 @@
+ghost use Rattle.std.specs.Prelude.{◌≡◌, ◌+◌, ◌^◌, ◌<◌, ◌≤◌, ◌↔◌, ◌⊎◌, ◌∷◌, [], ℕ, List, Option, IsTrue, IfSome, IsErrOf, length, take};
+ghost use Rattle.outside.specs.Blocks.{Block};
+ghost use Rattle.outside.specs.Space.{bounds_of};
+ghost use Rattle.block_space.specs.Blocks.{Keeps, space_of};
+ghost use Rattle.block_reader.specs.Stops.{refusal_of};
+ghost use Rattle.file_model.specs.Headers.{later_header};
+ghost use Rattle.file_model.specs.Refusals.{IsBlockRefused, Malformed};
+ghost use Rattle.h5_base.specs.declared.kinds.BlockKind.TheVariants as block_kind;
+
+use block_reader::{TreeStop, adopt};
+use block_space::Blocks;
+use h5_base::BlockKind;
+use outside::Space;
+
+/// So many bytes say which version a header has: the 16 of a prefix, or 4 or none where these pass the last address.
+pub(crate) fn first_len(at: u64) -> usize
+    ensures fits { at + result ≤ 2 ^ 64 }
+    ensures whole { at + 16 ≤ 2 ^ 64 → result ≡ 16 }
+    ensures most { result ≤ 16 }
+    ensures four { at + 4 ≤ 2 ^ 64 → 4 ≤ result }
+{
+    if at <= u64::MAX - 15 {
+        16
+    } else if at <= u64::MAX - 3 {
+        4
+    } else {
+        0
+    }
+}
+
+/// Whether the bytes begin with `OHDR`.
+pub(crate) fn is_later(bytes: &[u8]) -> bool
+    ensures { IsTrue result ↔ (4 ≤ length bytes.now) × (take 4 bytes.now ≡ later_header) }
+{
+    bytes.len() >= 4 && &bytes[..4] == b"OHDR".as_slice()
+}
+
+/// Why there is no prefix at an address where none is spelled.
+pub(crate) fn no_prefix<V: Space>(blocks: &mut Blocks<V>, at: u64) -> TreeStop
+    requires listed { (met : List Block) × Keeps V.view blocks.old met }
+    ensures refused { (met : List Block) (own : Option (List ℕ)) → Keeps V.view blocks.old met
+        → IfSome (refusal_of result) (λ r. IsBlockRefused (bounds_of (V.view (space_of blocks.old)) own) met (record { start = at; len = 16 }) block_kind.Header r
+        ⊎ ((at + 16 < 2 ^ 64) × (r ≡ Malformed at block_kind.Header))) }
+    ensures no_fault { result ≡ TreeStop.Failed → ⊥ }
+    ensures space { space_of blocks.new ≡ space_of blocks.old }
+{
+    match adopt(blocks, at, 16, BlockKind::Header) {
+        Ok(()) => TreeStop::Malformed {
+            at,
+            kind: BlockKind::Header,
+        },
+        Err(stop) => stop,
+    }
+}

@@ -1,0 +1,142 @@
+ghost use Rattle.std.specs.Prelude.{◌≡◌, ◌+◌, ◌^◌, ◌<◌, ◌≤◌, ◌++◌, ◌∷◌, [], ℕ, List, Option, IsTrue, IfOk, IfErr, IfSome, OnOk, IsErrOf};
+ghost use Rattle.outside.specs.Blocks.{Block};
+ghost use Rattle.outside.specs.Causes.{Rose};
+ghost use Rattle.outside.specs.Space.{bounds_of};
+ghost use Rattle.block_space.specs.Blocks.{Keeps, space_of};
+ghost use Rattle.block_reader.specs.Stops.{refusal_of};
+ghost use Rattle.file_model.specs.Headers.{Part, header_blocks};
+ghost use Rattle.file_model.specs.Refusals.{IsMessageRefused, IsHeaderRefused};
+ghost use Rattle.header_reader.specs.Found.{IsFound};
+ghost use Rattle.header_reader.specs.Walks.{HasPrefix, IsGathered};
+
+use crate::first::{first_len, is_later, no_prefix};
+use crate::walk::{MOST_BYTES, Walk};
+use block_reader::{TreeStop, adopt, read};
+use block_space::Blocks;
+use h5_base::{BlockKind, What};
+use header_codec::{Prefix, read_prefix};
+use object_header::{Messages, ObjectKind};
+use outside::Space;
+use std::alloc::Global;
+
+/// What stands where an object's header is.
+#[derive(Debug, Drop)]
+pub enum Header {
+    /// A header that begins with `OHDR`, of a later version, which isn't read.
+    Later,
+    /// A header of version 1, and the object that it makes.
+    Known { kind: ObjectKind },
+}
+
+// Meets all messages of a header, whose own block is in the catalogue.
+fn gather<V: Space>(
+    alloc: Global,
+    blocks: &mut Blocks<V>,
+    at: u64,
+    prefix: Prefix,
+) -> Result<Messages, TreeStop>
+    requires stands { V.Stands (space_of blocks.old) }
+    requires listed { (met : List Block) × Keeps V.view blocks.old met }
+    requires short { 16 + prefix.size ≤ 1048576 }
+    requires fits { at + 16 + prefix.size < 2 ^ 64 }
+    ensures found { IsTrue V.tells → IfOk result (λ messages. (parts : List Part) × IsGathered (V.view (space_of blocks.old)).array at prefix messages parts
+        × ((met : List Block) → Keeps V.view blocks.old (met ++ record { start = at; len = 16 + prefix.size } ∷ []) → Keeps V.view blocks.new (met ++ header_blocks at prefix parts))) }
+    ensures refused { IsTrue V.tells → IfErr result (λ stop. (met : List Block) (own : Option (List ℕ)) → Keeps V.view blocks.old (met ++ record { start = at; len = 16 + prefix.size } ∷ [])
+        → IfSome (refusal_of stop) (IsMessageRefused (V.view (space_of blocks.old)).array (bounds_of (V.view (space_of blocks.old)) own) met at prefix)) }
+    ensures alike { V.Alike (space_of blocks.old) (space_of blocks.new) }
+    ensures stands { (IsErrOf result TreeStop.Failed → ⊥) → V.Stands (space_of blocks.new) }
+    ensures listed { OnOk result ((met : List Block) × Keeps V.view blocks.new met) }
+    ensures later { V.faults (space_of blocks.old) ≤ V.faults (space_of blocks.new) }
+    ensures cause { IsErrOf result TreeStop.Failed → Rose (V.faults (space_of blocks.old)) (V.faults (space_of blocks.new)) }
+{
+    let mut walk = match Walk::begin(alloc, at, prefix) {
+        Ok(walk) => walk,
+        Err(stop) => return Err(stop),
+    };
+    'parts: while walk.wanted > 0 {
+        let Some(part) = walk.waiting.pop_front() else {
+            return Err(TreeStop::Malformed {
+                at,
+                kind: BlockKind::Header,
+            });
+        };
+        if let Err(stop) = walk.read_part(alloc, blocks, part) {
+            return Err(stop);
+        }
+    }
+    let Walk { messages, .. } = walk;
+    Ok(messages)
+}
+
+// Reads the header whose prefix was read.
+fn read_known<V: Space>(
+    alloc: Global,
+    blocks: &mut Blocks<V>,
+    at: u64,
+    prefix: Prefix,
+) -> Result<Header, TreeStop>
+    requires stands { V.Stands (space_of blocks.old) }
+    requires listed { (met : List Block) × Keeps V.view blocks.old met }
+    ensures found { IsTrue V.tells → HasPrefix (V.view (space_of blocks.old)).array at prefix → IfOk result (λ x. (met : List Block) → Keeps V.view blocks.old met
+        → (bs : List Block) × IsFound (V.view (space_of blocks.old)).array at x bs × Keeps V.view blocks.new (met ++ bs)) }
+    ensures refused { IsTrue V.tells → HasPrefix (V.view (space_of blocks.old)).array at prefix
+        → IfErr result (λ stop. (met : List Block) (own : Option (List ℕ)) → Keeps V.view blocks.old met
+        → IfSome (refusal_of stop) (IsHeaderRefused (V.view (space_of blocks.old)).array (bounds_of (V.view (space_of blocks.old)) own) met at)) }
+    ensures alike { V.Alike (space_of blocks.old) (space_of blocks.new) }
+    ensures stands { (IsErrOf result TreeStop.Failed → ⊥) → V.Stands (space_of blocks.new) }
+    ensures listed { OnOk result ((met : List Block) × Keeps V.view blocks.new met) }
+    ensures later { V.faults (space_of blocks.old) ≤ V.faults (space_of blocks.new) }
+    ensures cause { IsErrOf result TreeStop.Failed → Rose (V.faults (space_of blocks.old)) (V.faults (space_of blocks.new)) }
+{
+    let len = 16 + u64::from(prefix.size);
+    if len > MOST_BYTES {
+        return Err(TreeStop::Unsupported { what: What::Header });
+    }
+    if let Err(stop) = adopt(blocks, at, len, BlockKind::Header) {
+        return Err(stop);
+    }
+    match gather(alloc, blocks, at, prefix) {
+        Ok(messages) => {
+            let kind = messages.kind(alloc)?;
+            Ok(Header::Known { kind })
+        }
+        Err(stop) => Err(stop),
+    }
+}
+
+/// Reads the object header at an address, takes its blocks into the catalogue, and says which object it makes (HDF5
+/// File Format Specification 3.0, IV.A.1.a, IV.A.2 and IV.A.2.q). Of a header that begins with `OHDR` only these 4 bytes
+/// are taken. `Unsupported` says that it has more than 1,048,576 bytes with its continuations; `Malformed` names the
+/// header, or the address of a message in it.
+pub fn read_header<V: Space>(
+    alloc: Global,
+    blocks: &mut Blocks<V>,
+    at: u64,
+) -> Result<Header, TreeStop>
+    requires stands { V.Stands (space_of blocks.old) }
+    requires listed { (met : List Block) × Keeps V.view blocks.old met }
+    ensures found { IsTrue V.tells → IfOk result (λ x. (met : List Block) → Keeps V.view blocks.old met
+        → (bs : List Block) × IsFound (V.view (space_of blocks.old)).array at x bs × Keeps V.view blocks.new (met ++ bs)) }
+    ensures refused { IsTrue V.tells → IfErr result (λ stop. (met : List Block) (own : Option (List ℕ)) → Keeps V.view blocks.old met
+        → IfSome (refusal_of stop) (IsHeaderRefused (V.view (space_of blocks.old)).array (bounds_of (V.view (space_of blocks.old)) own) met at)) }
+    ensures alike { V.Alike (space_of blocks.old) (space_of blocks.new) }
+    ensures stands { (IsErrOf result TreeStop.Failed → ⊥) → V.Stands (space_of blocks.new) }
+    ensures listed { OnOk result ((met : List Block) × Keeps V.view blocks.new met) }
+    ensures later { V.faults (space_of blocks.old) ≤ V.faults (space_of blocks.new) }
+    ensures cause { IsErrOf result TreeStop.Failed → Rose (V.faults (space_of blocks.old)) (V.faults (space_of blocks.new)) }
+{
+    let first = match read(alloc, blocks, at, first_len(at)) {
+        Ok(first) => first,
+        Err(stop) => return Err(stop),
+    };
+    if is_later(first.as_slice()) {
+        if let Err(stop) = adopt(blocks, at, 4, BlockKind::Header) {
+            return Err(stop);
+        }
+        return Ok(Header::Later);
+    }
+    match read_prefix(first.as_slice()) {
+        Some(prefix) => read_known(alloc, blocks, at, prefix),
+        None => Err(no_prefix(blocks, at)),
+    }
+}
