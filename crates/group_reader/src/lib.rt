@@ -2,8 +2,11 @@
 #![tactic(auto)]
 
 mod entries;
+mod leaf;
 mod link;
 mod names;
+mod node;
+mod table;
 mod text;
 
 pub use link::{FoundLink, LinkTarget};
