@@ -1,3 +1,4 @@
 pub mod EntryLemmas
+pub mod LeafLemmas
 pub mod NameLemmas
 pub mod NodeLemmas

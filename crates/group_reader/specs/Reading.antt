@@ -9,9 +9,10 @@ use Rattle.node_codec.specs.GroupNodes.{SpellsGroupNode, group_node_len}
 use Rattle.node_codec.specs.declared.group_node.GroupNode.{GroupNode}
 use Rattle.block_space.specs.Blocks.{Keeps, space_of}
 use Rattle.block_space.specs.declared.blocks.Blocks.{Blocks}
-use Rattle.file_model.specs.Groups.{Ks, Under, IsLeaf, IsIndex}
+use Rattle.object_model.specs.Tree.{Name, AreOrdered}
+use Rattle.file_model.specs.Groups.{Ks, Found, HasText, AreBetween, Under, IsLeaf, IsIndex}
 use Rattle.file_model.specs.Refusals.{Refusal, Malformed, IsBlockRefused}
-use Rattle.file_model.specs.RefusedGroups.{RefusedUnder, IsLeafRefused, IsIndexRefused}
+use Rattle.file_model.specs.RefusedGroups.{RefusedUnder, names_of, IsLeafRefused, IsIndexRefused}
 use Rattle.block_reader.specs.declared.stop.TreeStop.{TreeStop}
 use Rattle.block_reader.specs.Stops.{refusal_of}
 
@@ -54,3 +55,12 @@ IsNodeAt b k at node = SpellsGroupNode k node (bytes_of b at (group_node_len k))
 -- a node is refused whatever its level and its children: as a block, or since its bytes spell none
 abbrev pub IsHeadRefused : Array → Bounds → (k : ℕ) → List Block → (at : ℕ) → Refusal → Type 0
 IsHeadRefused b e k met at r = IsBlockRefused e met (node_block k at) kind.Tree r ⊎ (((n : GroupNode) → IsNodeAt b k at n → ⊥) × (r ≡ Malformed at kind.Tree))
+
+-- The links under a child lie between the keys at both sides of it, and come after those under the children before it.
+pub record FitKeys (segment : List ℕ) (k l : ℕ) (done here : List Found) : Type 0 where
+  pub low : Name
+  pub high : Name
+  pub at_low : HasText segment k low
+  pub at_high : HasText segment l high
+  pub between : AreBetween low high here
+  pub ordered : AreOrdered (names_of (done ++ here))

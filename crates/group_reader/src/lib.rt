@@ -2,6 +2,8 @@
 #![tactic(auto)]
 
 mod entries;
+mod index;
+mod keys;
 mod leaf;
 mod link;
 mod names;
