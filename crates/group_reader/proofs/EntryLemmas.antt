@@ -1,8 +1,8 @@
 -- Links that are pushed behind others, one by one with the entries that tell them.
-use Rattle.std.proofs.Common.{◌≡◌, ℕ, ◌+◌, ◌-◌, ◌<◌, ◌≤◌, suc, Bool, true, false, IsTrue, List, [], ◌∷◌, ◌++◌, length, length-drop, take, drop, get_or, map, Option, Some, None, IfSome, refl, sym, ◌∙◌, ap, subst, arith}
-use Rattle.std.proofs.lemmas.List.{take_all, take_more, drop-map, map-append, length-map, append_assoc, take-append-drop}
+use Rattle.std.proofs.Common.{◌≡◌, ℕ, ◌+◌, ◌-◌, ◌<◌, ◌≤◌, suc, Bool, true, false, IsTrue, List, [], ◌∷◌, ◌++◌, length, length-drop, length-append, take, drop, get_or, map, Option, Some, None, IfSome, refl, sym, ◌∙◌, ap, subst, arith}
+use Rattle.std.proofs.lemmas.List.{take_all, take_more, take-map, drop-map, map-append, length-map, append_assoc, take-append-drop}
 use Rattle.std.proofs.lemmas.Option.{slice_get-get_or, get_or_from_slice_get}
-use Rattle.std.proofs.Math.Seq.{drop-append_seam, drop-cons}
+use Rattle.std.proofs.Math.Seq.{take-append_seam, drop-append_seam, drop-cons}
 use Rattle.std.specs.List.{Contains}
 use Rattle.h5_base.specs.declared.kinds.BlockKind.TheVariants as kind
 use Rattle.node_codec.specs.declared.snod.SnodEntry.{SnodEntry}
@@ -104,3 +104,16 @@ disordered s heap node entries i d before now link a lt is wrong =
     let split : entries ≡ x.before ++ x.entry ∷ e ∷ later =
     split_at entries i d lt ∙ ap (λ (l : List SnodEntry). l ++ e ∷ later) x.is_last ∙ append_assoc x.before (x.entry ∷ []) (e ∷ later) in
     Disordered x.before later x.entry e x.name link.name split x.text is.0 x.wrong refl
+
+-- what was pushed before a middle, where more was pushed behind it
+pub middle_is : (begin middle : ℕ) (before links now x : List FoundLink) (done here : List Found) → begin ≡ length before → middle ≡ length links → x ≡ now → links_of links ≡ links_of before ++ done → links_of now ≡ links_of links ++ here
+    → links_of (take (middle - begin) (drop begin x)) ≡ done
+middle_is begin middle before links now x done here b m e is more =
+    let all : links_of now ≡ links_of before ++ (done ++ here) = more ∙ ap (λ (l : List Found). l ++ here) is ∙ append_assoc (links_of before) done here in
+    let counts : length links ≡ length before + length done =
+    sym (length-map links found_of) ∙ ap (λ (l : List Found). length l) is ∙ length-append (links_of before) done ∙ ap (λ (n : ℕ). n + length done) (length-map before found_of) in
+    let size : middle - begin ≡ length done = omega arith in
+    sym (take-map found_of (middle - begin) (drop begin x))
+        ∙ (λ j. take (size j) (links_of (drop (b j) (e j))))
+        ∙ ap (λ (l : List Found). take (length done) l) (behind_is before now (done ++ here) all)
+        ∙ take-append_seam done here

@@ -1,3 +1,5 @@
+pub mod ChildLemmas
+pub mod ChildSteps
 pub mod EntryLemmas
 pub mod LeafLemmas
 pub mod NameLemmas
