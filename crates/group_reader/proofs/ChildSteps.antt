@@ -9,7 +9,8 @@ use Rattle.block_space.specs.Blocks.{Keeps, space_of}
 use Rattle.block_space.specs.declared.blocks.Blocks.{Blocks}
 use Rattle.file_model.specs.Groups.{Found, Under, AreChildren}
 use Rattle.file_model.specs.Refusals.{Refusal}
-use Rattle.file_model.specs.RefusedGroups.{RefusedUnder, IsKeyRefused, AreChildrenRefused}
+use Rattle.object_model.specs.Tree.{AreOrdered}
+use Rattle.file_model.specs.RefusedGroups.{RefusedUnder, names_of, IsKeyRefused, AreChildrenRefused}
 use Rattle.block_reader.specs.declared.stop.TreeStop.{TreeStop}
 use Rattle.block_reader.specs.Stops.{refusal_of}
 use Rattle.block_reader.proofs.Stopped.{if_some}
@@ -122,3 +123,8 @@ key_stops view old mid new s heap node Child Refused keys children ks cs k l ks'
     let first = cut_first s heap node (Child b) (Refused b) keys children ks cs k l ks' c cs' a.added met x.0 cut x.1 in
     if_some (refusal_of stop) (IsKeyRefused s heap node k l a.added r.added) (AreChildrenRefused s heap node (Child b) (Refused b e) keys children [] met)
     (λ r' z. first_key_refused s heap node (Child b) (Refused b) keys children k l ks' c cs' a.added r.added met x.0 y.0 e r' first child z) h
+
+-- what is told of two lists in order is told of those that they are
+pub told_of : (P : List Found → List Found → Type 0) (x y done here : List Found) → x ≡ done → y ≡ here → AreOrdered (names_of done) → AreOrdered (names_of here) → (AreOrdered (names_of x) → AreOrdered (names_of y) → P x y) → P done here
+told_of P x y done here e f o p h =
+    subst (λ (d : List Found). P d here) e (subst (λ (d : List Found). P x d) f (h (subst (λ (d : List Found). AreOrdered (names_of d)) (sym e) o) (subst (λ (d : List Found). AreOrdered (names_of d)) (sym f) p)))

@@ -1,6 +1,7 @@
 pub mod ChildLemmas
 pub mod ChildSteps
 pub mod EntryLemmas
+pub mod IndexLemmas
 pub mod LeafLemmas
 pub mod NameLemmas
 pub mod NodeLemmas
