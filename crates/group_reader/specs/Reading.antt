@@ -64,3 +64,9 @@ pub record FitKeys (segment : List ℕ) (k l : ℕ) (done here : List Found) : T
   pub at_high : HasText segment l high
   pub between : AreBetween low high here
   pub ordered : AreOrdered (names_of (done ++ here))
+
+-- All under a root node of some level, with the names in order.
+pub record AreIndexed (b : Array) (ks : Ks) (segment : List ℕ) (tree : ℕ) (fs : List Found) (bs : List Block) : Type 0 where
+  pub level : ℕ
+  pub index : IsIndex b ks segment level tree fs bs
+  pub ordered : AreOrdered (names_of fs)

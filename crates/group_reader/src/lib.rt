@@ -2,13 +2,16 @@
 #![tactic(auto)]
 
 mod entries;
+mod heap;
 mod index;
 mod keys;
 mod leaf;
 mod link;
+mod links;
 mod names;
 mod node;
 mod table;
 mod text;
 
 pub use link::{FoundLink, LinkTarget};
+pub use links::read_links;

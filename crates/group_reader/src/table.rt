@@ -1,4 +1,5 @@
 /// The table of a group while it is read: the K values of its file, and its local heap.
+#[derive(Clone, Copy)]
 pub(crate) struct Table<'a> {
     /// Half of the entries that a symbol table node has room for.
     pub(crate) leaf_k: u16,
