@@ -71,7 +71,7 @@ pub record IsRead (b : Array) (k at : ℕ) (node : GroupNode) (level : ℕ) (key
   pub keys_are : keys ≡ node.keys
   pub children_are : children ≡ node.children
 
-abbrev TakesNode : {V : Type 0} → (V → SpaceView) → (old new : Blocks V) → (k at : ℕ) → Type 0
+abbrev pub TakesNode : {V : Type 0} → (V → SpaceView) → (old new : Blocks V) → (k at : ℕ) → Type 0
 TakesNode view old new k at = (met : List Block) → Keeps view old met → Keeps view new (met ++ node_block k at ∷ [])
 
 pub index_found : {V T : Type 0} (view : V → SpaceView) (old mid new : Blocks V) (ks : Ks) (s : List ℕ) (level at : ℕ) (node : GroupNode) (keys children : List ℕ) (before now : List FoundLink) (r : Result T TreeStop)

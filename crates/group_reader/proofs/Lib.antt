@@ -5,3 +5,4 @@ pub mod IndexLemmas
 pub mod LeafLemmas
 pub mod NameLemmas
 pub mod NodeLemmas
+pub mod TableLemmas
