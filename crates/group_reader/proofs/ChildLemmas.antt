@@ -27,11 +27,11 @@ pub first_more : (s : List ℕ) (heap node : ℕ) (Child : Under) (Refused : Bou
     → AreFirst s heap node Child Refused keys children (l ∷ ks) cs (done ++ here) met (own ++ bs)
 first_more s heap node Child Refused keys children k l ks c cs done here met own bs first child fit = record {
   more = λ later rest h.
-    let all = first.more (here ++ later) (bs ++ rest) (fit.low, fit.high, here, later, bs, rest, fit.at_low, fit.at_high, child, fit.between, h, refl, refl) in
-    subst (λ (x : List Found). AreChildren s Child keys children x ((own ++ bs) ++ rest)) (sym (append_assoc done here later))
-    (subst (λ (x : List Block). AreChildren s Child keys children (done ++ (here ++ later)) x) (sym (append_assoc own bs rest)) all);
+      let all = first.more (here ++ later) (bs ++ rest) (fit.low, fit.high, here, later, bs, rest, fit.at_low, fit.at_high, child, fit.between, h, refl, refl) in
+      subst (λ (x : List Found). AreChildren s Child keys children x ((own ++ bs) ++ rest)) (sym (append_assoc done here later))
+      (subst (λ (x : List Block). AreChildren s Child keys children (done ++ (here ++ later)) x) (sym (append_assoc own bs rest)) all);
   refused = λ e r h.
-    first.refused e r (inr (here, bs, child, inr (subst (λ (x : List Block). AreChildrenRefused s heap node Child (Refused e) (l ∷ ks) cs (done ++ here) x r) (sym (append_assoc met own bs)) h)));
+      first.refused e r (inr (here, bs, child, inr (subst (λ (x : List Block). AreChildrenRefused s heap node Child (Refused e) (l ∷ ks) cs (done ++ here) x r) (sym (append_assoc met own bs)) h)));
 }
 
 pub first_child_refused : (s : List ℕ) (heap node : ℕ) (Child : Under) (Refused : Bounds → RefusedUnder) (keys children : List ℕ) (k l : ℕ) (ks : List ℕ) (c : ℕ) (cs : List ℕ) (done : List Found) (met own : List Block) (e : Bounds) (r : Refusal)

@@ -59,9 +59,9 @@ add_all view old new s heap node Child Refused keys children ks i before now end
   behind = a.behind;
   ordered = a.ordered;
   part = λ met keeps.
-    let x = a.part met keeps in
-    let first = subst (λ (cs : List ℕ). AreFirst s heap node Child Refused keys children ks cs a.added met x.0) (drop_all i children ended) x.1 in
-    (x.0, first_all s heap node Child Refused keys children ks a.added met x.0 first, x.2);
+      let x = a.part met keeps in
+      let first = subst (λ (cs : List ℕ). AreFirst s heap node Child Refused keys children ks cs a.added met x.0) (drop_all i children ended) x.1 in
+      (x.0, first_all s heap node Child Refused keys children ks a.added met x.0 first, x.2);
 }
 
 -- ---- a child
@@ -82,17 +82,16 @@ add_child view old mid new s heap node Child Refused keys children ks cs k l ks'
   behind = r.behind ∙ ap (λ (x : List Found). x ++ r.added) a.behind ∙ append_assoc (links_of before) a.added r.added;
   ordered = fit.ordered;
   part = λ met keeps.
-    let b = view old.space in
-    let x = a.part met keeps in
-    let y = r.part (met ++ x.0) x.2 in
-    let child = subst (λ (v : SpaceView). Child v c r.added y.0) same y.1 in
-    let first = cut_first s heap node (Child b) (Refused b) keys children ks cs k l ks' c cs' a.added met x.0 cut x.1 in
-    let next = first_more s heap node (Child b) (Refused b) keys children k l ks' c cs' a.added r.added met x.0 y.0 first child fit in
-    (
-      x.0 ++ y.0,
-      subst (λ (z : List ℕ). AreFirst s heap node (Child b) (Refused b) keys children z cs' (a.added ++ r.added) met (x.0 ++ y.0)) on next,
-      subst (λ (z : List Block). Keeps view new z) (append_assoc met x.0 y.0) y.2,
-    );
+      let b = view old.space in
+      let x = a.part met keeps in
+      let y = r.part (met ++ x.0) x.2 in
+      let child = subst (λ (v : SpaceView). Child v c r.added y.0) same y.1 in
+      let first = cut_first s heap node (Child b) (Refused b) keys children ks cs k l ks' c cs' a.added met x.0 cut x.1 in
+      let next = first_more s heap node (Child b) (Refused b) keys children k l ks' c cs' a.added r.added met x.0 y.0 first child fit in (
+        x.0 ++ y.0,
+        subst (λ (z : List ℕ). AreFirst s heap node (Child b) (Refused b) keys children z cs' (a.added ++ r.added) met (x.0 ++ y.0)) on next,
+        subst (λ (z : List Block). Keeps view new z) (append_assoc met x.0 y.0) y.2,
+      );
 }
 
 pub child_stops : {V : Type 0} (view : V → SpaceView) (old mid : Blocks V) (s : List ℕ) (heap node : ℕ) (Child : UnderIn) (Refused : RefusedIn) (keys children ks cs : List ℕ) (k l : ℕ) (ks' : List ℕ) (c : ℕ) (cs' : List ℕ)

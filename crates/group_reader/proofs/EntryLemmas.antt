@@ -21,8 +21,8 @@ use Rattle.group_reader.proofs.NameLemmas.{IsAnswer}
 pub behind_is : (before now : List FoundLink) (added : List Found) → links_of now ≡ links_of before ++ added → links_of (drop (length before) now) ≡ added
 behind_is before now added is =
     sym (drop-map found_of (length before) now)
-        ∙ (λ j. drop (sym (length-map before found_of) j) (is j))
-        ∙ drop-append_seam (links_of before) added
+    ∙ (λ j. drop (sym (length-map before found_of) j) (is j))
+    ∙ drop-append_seam (links_of before) added
 
 pub rest_is : (begin : ℕ) (x : List FoundLink) → take (length x - begin) (drop begin x) ≡ drop begin x
 rest_is begin x = take_all (length x - begin) (drop begin x) (omega (arith, length-drop begin x))
@@ -114,6 +114,6 @@ middle_is begin middle before links now x done here b m e is more =
     sym (length-map links found_of) ∙ ap (λ (l : List Found). length l) is ∙ length-append (links_of before) done ∙ ap (λ (n : ℕ). n + length done) (length-map before found_of) in
     let size : middle - begin ≡ length done = omega arith in
     sym (take-map found_of (middle - begin) (drop begin x))
-        ∙ (λ j. take (size j) (links_of (drop (b j) (e j))))
-        ∙ ap (λ (l : List Found). take (length done) l) (behind_is before now (done ++ here) all)
-        ∙ take-append_seam done here
+    ∙ (λ j. take (size j) (links_of (drop (b j) (e j))))
+    ∙ ap (λ (l : List Found). take (length done) l) (behind_is before now (done ++ here) all)
+    ∙ take-append_seam done here

@@ -86,17 +86,16 @@ index_found view old mid new ks s level at node keys children before now r same 
       behind = a.behind;
       ordered = a.ordered;
       part = λ met keeps.
-        let b = (view old.space).array in
-        let block = node_block ks.internal at in
-        let x = a.part (met ++ block ∷ []) (taken met keeps) in
-        let one = subst (λ (v : SpaceView). AreChildren s (IsBelow v.array ks s level) keys children a.added x.0) same x.1 in
-        let two = subst (λ (l : List ℕ). AreChildren s (IsBelow b ks s level) l children a.added x.0) is.keys_are one in
-        let three = subst (λ (l : List ℕ). AreChildren s (IsBelow b ks s level) node.keys l a.added x.0) is.children_are two in
-        (
-          block ∷ x.0,
-          as_index b ks s level at a.added (block ∷ x.0) (record { node = node; spelled = is.spelled; level_is = is.level_is; below = x.0; children = three; blocks = refl }),
-          subst (λ (l : List Block). Keeps view new l) (append_assoc met (block ∷ []) x.0) x.2,
-        );
+          let b = (view old.space).array in
+          let block = node_block ks.internal at in
+          let x = a.part (met ++ block ∷ []) (taken met keeps) in
+          let one = subst (λ (v : SpaceView). AreChildren s (IsBelow v.array ks s level) keys children a.added x.0) same x.1 in
+          let two = subst (λ (l : List ℕ). AreChildren s (IsBelow b ks s level) l children a.added x.0) is.keys_are one in
+          let three = subst (λ (l : List ℕ). AreChildren s (IsBelow b ks s level) node.keys l a.added x.0) is.children_are two in (
+            block ∷ x.0,
+            as_index b ks s level at a.added (block ∷ x.0) (record { node = node; spelled = is.spelled; level_is = is.level_is; below = x.0; children = three; blocks = refl }),
+            subst (λ (l : List Block). Keeps view new l) (append_assoc met (block ∷ []) x.0) x.2,
+          );
     }) h
 
 pub index_refused : {V T : Type 0} (view : V → SpaceView) (old mid : Blocks V) (ks : Ks) (s : List ℕ) (heap level at : ℕ) (node : GroupNode) (keys children : List ℕ) (r : Result T TreeStop)

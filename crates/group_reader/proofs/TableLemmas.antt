@@ -39,8 +39,7 @@ tree_found view old mid new ks s at node keys children before now same is taken 
     let a : Adds before now (λ fs. Takes view old new (IsIndex b ks s node.level at fs)) =
     index_found view old mid new ks s node.level at node keys children before now done same is taken h in
     let all : a.added ≡ links_of now = sym (a.behind ∙ ap (λ (l : List FoundLink). links_of l ++ a.added) none) in
-    let x = a.part met keeps in
-    (
+    let x = a.part met keeps in (
       x.0,
       record {
         level = node.level;
@@ -88,8 +87,7 @@ table_found view old mid new end ks tree heap head segment fs h takes = λ met k
     let own = heap_block heap ∷ placed head.segment_at head.len in
     let x = takes (met ++ own) (both_taken view old mid new heap head segment met h keeps) in
     let there = subst (λ (v : SpaceView). AreIndexed v.array ks segment tree fs x.0) (h.second ∙ h.first) x.1 in
-    let all = subst (λ (l : List ℕ). AreIndexed b ks l tree fs x.0) (segment_is view old mid new heap head segment h) there in
-    (
+    let all = subst (λ (l : List ℕ). AreIndexed b ks l tree fs x.0) (segment_is view old mid new heap head segment h) there in (
       own ++ x.0,
       record { head = head; spelled = h.spelled; level = all.level; nodes = x.0; index = all.index; ordered = all.ordered; blocks = refl },
       subst (λ (l : List Block). Keeps view end l) (append_assoc met own x.0) x.2,

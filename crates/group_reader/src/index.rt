@@ -102,11 +102,11 @@ pub(crate) fn read_children<V: Space>(
     requires one_more { length keys.now ≡ length children.now + 1 }
     ensures found { IsTrue V.tells → (chunk : ℕ) → OnOk result (Adds links.old.items links.new.items (λ fs. Takes V.view blocks.old blocks.new
         (AreChildren table.now.segment.now (IsBelow (array_of V.view blocks.old) (ks_of table.now.leaf_k table.now.internal_k chunk) table.now.segment.now level)
-            keys.now children.now fs))) }
+        keys.now children.now fs))) }
     ensures refused { IsTrue V.tells → (chunk : ℕ) → IfErr result (Refuses V.view blocks.old (λ e met.
         AreChildrenRefused table.now.segment.now table.now.heap_at node_at (IsBelow (array_of V.view blocks.old) (ks_of table.now.leaf_k table.now.internal_k chunk) table.now.segment.now level)
-            (IsBelowRefused (array_of V.view blocks.old) e (ks_of table.now.leaf_k table.now.internal_k chunk) table.now.segment.now table.now.heap_at level)
-            keys.now children.now [] met)) }
+        (IsBelowRefused (array_of V.view blocks.old) e (ks_of table.now.leaf_k table.now.internal_k chunk) table.now.segment.now table.now.heap_at level)
+        keys.now children.now [] met)) }
     ensures grows { OnOk result (length links.old.items ≤ length links.new.items) }
     ensures alike { V.Alike (space_of blocks.old) (space_of blocks.new) }
     ensures stands { (IsErrOf result TreeStop.Failed → ⊥) → V.Stands (space_of blocks.new) }

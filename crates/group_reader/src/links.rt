@@ -32,7 +32,7 @@ fn read_tree<V: Space>(
         (AreIndexed (array_of V.view blocks.old) (ks_of table.now.leaf_k table.now.internal_k chunk) table.now.segment.now tree_at (links_of links.items))) }
     ensures refused { IsTrue V.tells → (chunk : ℕ) → IfErr result (Refuses V.view blocks.old (λ e met.
         IsIndexRefused (array_of V.view blocks.old) e (ks_of table.now.leaf_k table.now.internal_k chunk) table.now.segment.now table.now.heap_at
-            (root_level (array_of V.view blocks.old) (ks_of table.now.leaf_k table.now.internal_k chunk) tree_at) met tree_at)) }
+        (root_level (array_of V.view blocks.old) (ks_of table.now.leaf_k table.now.internal_k chunk) tree_at) met tree_at)) }
     ensures alike { V.Alike (space_of blocks.old) (space_of blocks.new) }
     ensures stands { (IsErrOf result TreeStop.Failed → ⊥) → V.Stands (space_of blocks.new) }
     ensures listed { OnOk result ((met : List Block) × Keeps V.view blocks.new met) }

@@ -115,8 +115,16 @@ fn links_are_read(rt: HostRuntime) -> Result<(), Fail> {
         (&[(208, 32, 8)], 100, no_text),
         (&[(472, 32, 4)], 100, no_text),
         (&[(140, 40, 8)], 600, no_text),
-        (&[(208, 10, 8), (248, 8, 8)], 600, "Malformed { at: 200, kind: Snod }"),
-        (&[(132, 400, 8), (148, 200, 8)], 600, "Malformed { at: 100, kind: Tree }"),
+        (
+            &[(208, 10, 8), (248, 8, 8)],
+            600,
+            "Malformed { at: 200, kind: Snod }",
+        ),
+        (
+            &[(132, 400, 8), (148, 200, 8)],
+            600,
+            "Malformed { at: 100, kind: Tree }",
+        ),
         (&[(140, 8, 8)], 100, "Malformed { at: 100, kind: Tree }"),
         (&[(632, 600, 8)], 600, "LinkedTwice { at: 600 }"),
         (&[(605, 2, 1)], 600, "Malformed { at: 100, kind: Tree }"),

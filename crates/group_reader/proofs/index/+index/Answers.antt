@@ -40,8 +40,8 @@ read_children-loop-i-init g t c = record {
   later = search rules;
   grows = search rules;
   adds = λ tells chunk.
-    add_none g.V.Space.view c.args.blocks.now c.args.table.now.segment.now c.args.table.now.heap_at c.args.node_at (IsBelow (array_of g.V.Space.view c.args.blocks.now) (ks_of c.args.table.now.leaf_k c.args.table.now.internal_k chunk) c.args.table.now.segment.now c.args.level)
-    (λ e. IsBelowRefused (array_of g.V.Space.view c.args.blocks.now) e (ks_of c.args.table.now.leaf_k c.args.table.now.internal_k chunk) c.args.table.now.segment.now c.args.table.now.heap_at c.args.level) c.args.keys.now c.args.children.now c.args.links.now.items;
+      add_none g.V.Space.view c.args.blocks.now c.args.table.now.segment.now c.args.table.now.heap_at c.args.node_at (IsBelow (array_of g.V.Space.view c.args.blocks.now) (ks_of c.args.table.now.leaf_k c.args.table.now.internal_k chunk) c.args.table.now.segment.now c.args.level)
+      (λ e. IsBelowRefused (array_of g.V.Space.view c.args.blocks.now) e (ks_of c.args.table.now.leaf_k c.args.table.now.internal_k chunk) c.args.table.now.segment.now c.args.table.now.heap_at c.args.level) c.args.keys.now c.args.children.now c.args.links.now.items;
 }
 
 pub read_children-returns-in-Err-clause-refused : goal.read_children-returns-in-Err-clause-refused
@@ -85,20 +85,20 @@ read_children-loop-i-preserved g t c = record {
   later = omega (arith, c.loop-i.invariant.later, c.in-Ok.ensures.later);
   grows = omega (arith, c.loop-i.invariant.grows, c.in-Ok.ensures.grows);
   adds = λ tells chunk.
-    let below : UnderIn = λ v. IsBelow v.array (ks_of c.args.table.now.leaf_k c.args.table.now.internal_k chunk) c.args.table.now.segment.now c.args.level in
-    let refused : RefusedIn = λ v e. IsBelowRefused v.array e (ks_of c.args.table.now.leaf_k c.args.table.now.internal_k chunk) c.args.table.now.segment.now c.args.table.now.heap_at c.args.level in
-    let inv = c.loop-i.invariant in
-    let a = inv.adds tells chunk in
-    let r = c.in-Ok.ensures.found tells chunk in
-    let begin : c.len-begin.result ≡ length c.args.links.now.items = omega (arith, c.len-begin.ensures, c.args.links.now.ok.0) in
-    let middle : c.len-middle.result ≡ length c.loop-i.links.items = omega (arith, c.len-middle.ensures, c.loop-i.links.ok.0) in
-    let done = middle_is c.len-begin.result c.len-middle.result c.args.links.now.items c.loop-i.links.items c.read_child.new.links.items c.deref.result.now a.added r.added begin middle c.deref.ensures.value a.behind r.behind in
-    let here = slice_is c.len-middle.result c.loop-i.links.items c.read_child.new.links.items c.deref-in-loop-i.result.now r.added middle c.deref-in-loop-i.ensures.value r.behind in
-    let fit : FitKeys c.args.table.now.segment.now (get_or c.args.keys.now c.loop-i.i 0) (get_or c.args.keys.now (c.loop-i.i + 1) 0) a.added r.added =
-    told_of (λ x y. FitKeys c.args.table.now.segment.now (get_or c.args.keys.now c.loop-i.i 0) (get_or c.args.keys.now (c.loop-i.i + 1) 0) x y) _ _ a.added r.added done here a.ordered r.ordered c.in-Ok-check_keys.ensures.found in
-    add_child g.V.Space.view c.args.blocks.now c.loop-i.blocks c.read_child.new.blocks c.args.table.now.segment.now c.args.table.now.heap_at c.args.node_at below refused c.args.keys.now c.args.children.now _ _ _ _ _ _ _ _ c.args.links.now.items c.loop-i.links.items c.read_child.new.links.items
-    (cut_at c.args.keys.now c.args.children.now c.loop-i.i c.loop-i-test.true c.requires.one_more) (cut_on c.args.keys.now c.args.children.now c.loop-i.i c.loop-i-test.true c.requires.one_more)
-    (sym (g.met.V.Space.alike _ _ inv.alike)) a r fit;
+      let below : UnderIn = λ v. IsBelow v.array (ks_of c.args.table.now.leaf_k c.args.table.now.internal_k chunk) c.args.table.now.segment.now c.args.level in
+      let refused : RefusedIn = λ v e. IsBelowRefused v.array e (ks_of c.args.table.now.leaf_k c.args.table.now.internal_k chunk) c.args.table.now.segment.now c.args.table.now.heap_at c.args.level in
+      let inv = c.loop-i.invariant in
+      let a = inv.adds tells chunk in
+      let r = c.in-Ok.ensures.found tells chunk in
+      let begin : c.len-begin.result ≡ length c.args.links.now.items = omega (arith, c.len-begin.ensures, c.args.links.now.ok.0) in
+      let middle : c.len-middle.result ≡ length c.loop-i.links.items = omega (arith, c.len-middle.ensures, c.loop-i.links.ok.0) in
+      let done = middle_is c.len-begin.result c.len-middle.result c.args.links.now.items c.loop-i.links.items c.read_child.new.links.items c.deref.result.now a.added r.added begin middle c.deref.ensures.value a.behind r.behind in
+      let here = slice_is c.len-middle.result c.loop-i.links.items c.read_child.new.links.items c.deref-in-loop-i.result.now r.added middle c.deref-in-loop-i.ensures.value r.behind in
+      let fit : FitKeys c.args.table.now.segment.now (get_or c.args.keys.now c.loop-i.i 0) (get_or c.args.keys.now (c.loop-i.i + 1) 0) a.added r.added =
+      told_of (λ x y. FitKeys c.args.table.now.segment.now (get_or c.args.keys.now c.loop-i.i 0) (get_or c.args.keys.now (c.loop-i.i + 1) 0) x y) _ _ a.added r.added done here a.ordered r.ordered c.in-Ok-check_keys.ensures.found in
+      add_child g.V.Space.view c.args.blocks.now c.loop-i.blocks c.read_child.new.blocks c.args.table.now.segment.now c.args.table.now.heap_at c.args.node_at below refused c.args.keys.now c.args.children.now _ _ _ _ _ _ _ _ c.args.links.now.items c.loop-i.links.items c.read_child.new.links.items
+      (cut_at c.args.keys.now c.args.children.now c.loop-i.i c.loop-i-test.true c.requires.one_more) (cut_on c.args.keys.now c.args.children.now c.loop-i.i c.loop-i-test.true c.requires.one_more)
+      (sym (g.met.V.Space.alike _ _ inv.alike)) a r fit;
 }
 
 pub read_children-returns-clause-found : goal.read_children-returns-clause-found

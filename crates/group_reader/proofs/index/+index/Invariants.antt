@@ -23,8 +23,8 @@ invariant-read_children-loop-i g l = record {
   later : g.V.Space.faults l.fn.blocks.space ≤ g.V.Space.faults l.blocks.space;
   grows : length l.fn.links.items ≤ length l.links.items;
   adds : IsTrue g.V.Space.tells → (chunk : ℕ) → Adds l.fn.links.items l.links.items (λ done.
-    TakesFirst g.V.Space.view l.fn.blocks l.blocks l.table.segment.now l.table.heap_at l.node_at
-    (IsBelow (array_of g.V.Space.view l.fn.blocks) (ks_of l.table.leaf_k l.table.internal_k chunk) l.table.segment.now l.level)
-    (λ e. IsBelowRefused (array_of g.V.Space.view l.fn.blocks) e (ks_of l.table.leaf_k l.table.internal_k chunk) l.table.segment.now l.table.heap_at l.level)
-    l.keys l.children (drop l.i l.keys) (drop l.i l.children) done);
+      TakesFirst g.V.Space.view l.fn.blocks l.blocks l.table.segment.now l.table.heap_at l.node_at
+      (IsBelow (array_of g.V.Space.view l.fn.blocks) (ks_of l.table.leaf_k l.table.internal_k chunk) l.table.segment.now l.level)
+      (λ e. IsBelowRefused (array_of g.V.Space.view l.fn.blocks) e (ks_of l.table.leaf_k l.table.internal_k chunk) l.table.segment.now l.table.heap_at l.level)
+      l.keys l.children (drop l.i l.keys) (drop l.i l.children) done);
 }
