@@ -1,14 +1,13 @@
 -- One child more of a node, with the keys at both sides of it.
-use Rattle.std.proofs.Common.{◌≡◌, ℕ, suc, ◌+◌, ◌<◌, ◌≤◌, List, [], ◌∷◌, ◌++◌, length, drop, get_or, Option, IfSome, refl, sym, ◌∙◌, ap, subst, arith}
+use Rattle.std.proofs.Common.{◌≡◌, ℕ, suc, ◌+◌, ◌<◌, ◌≤◌, List, [], ◌∷◌, ◌++◌, length, drop, get_or, IfSome, sym, ◌∙◌, ap, subst, arith}
 use Rattle.std.proofs.lemmas.List.{append_assoc, append-nil, drop_all}
 use Rattle.std.proofs.Math.Seq.{drop-cons}
 use Rattle.std.proofs.Math.Numerals.{add-one}
 use Rattle.outside.specs.Blocks.{Block, Bounds}
 use Rattle.outside.specs.Space.{SpaceView, bounds_of}
-use Rattle.block_space.specs.Blocks.{Keeps, space_of}
+use Rattle.block_space.specs.Blocks.{Keeps}
 use Rattle.block_space.specs.declared.blocks.Blocks.{Blocks}
 use Rattle.file_model.specs.Groups.{Found, Under, AreChildren}
-use Rattle.file_model.specs.Refusals.{Refusal}
 use Rattle.object_model.specs.Tree.{AreOrdered}
 use Rattle.file_model.specs.RefusedGroups.{RefusedUnder, names_of, IsKeyRefused, AreChildrenRefused}
 use Rattle.block_reader.specs.declared.stop.TreeStop.{TreeStop}

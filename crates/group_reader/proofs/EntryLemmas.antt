@@ -1,5 +1,5 @@
 -- Links that are pushed behind others, one by one with the entries that tell them.
-use Rattle.std.proofs.Common.{◌≡◌, ℕ, ◌+◌, ◌-◌, ◌<◌, ◌≤◌, suc, Bool, true, false, IsTrue, List, [], ◌∷◌, ◌++◌, length, length-drop, length-append, take, drop, get_or, map, Option, Some, None, IfSome, refl, sym, ◌∙◌, ap, subst, arith}
+use Rattle.std.proofs.Common.{◌≡◌, ℕ, ◌+◌, ◌-◌, ◌<◌, suc, Bool, true, false, List, [], ◌∷◌, ◌++◌, length, length-drop, length-append, take, drop, get_or, Option, IfSome, refl, sym, ◌∙◌, ap, subst, arith}
 use Rattle.std.proofs.lemmas.List.{take_all, take_more, take-map, drop-map, map-append, length-map, append_assoc, take-append-drop}
 use Rattle.std.proofs.lemmas.Option.{slice_get-get_or, get_or_from_slice_get}
 use Rattle.std.proofs.Math.Seq.{take-append_seam, drop-append_seam, drop-cons}
@@ -7,7 +7,7 @@ use Rattle.std.specs.List.{Contains}
 use Rattle.h5_base.specs.declared.kinds.BlockKind.TheVariants as kind
 use Rattle.node_codec.specs.declared.snod.SnodEntry.{SnodEntry}
 use Rattle.object_model.specs.Tree.{Name, name_lt, AreOrdered}
-use Rattle.file_model.specs.Groups.{Found, HasText, IsTarget, AreLinks}
+use Rattle.file_model.specs.Groups.{Found, HasText, AreLinks}
 use Rattle.file_model.specs.Refusals.{Refusal, Malformed}
 use Rattle.file_model.specs.RefusedGroups.{names_of}
 use Rattle.block_reader.proofs.Stopped.{if_some}

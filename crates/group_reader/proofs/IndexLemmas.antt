@@ -1,5 +1,5 @@
 -- Nodes of a B-tree by their level.
-use Rattle.std.proofs.Common.{◌≡◌, ◌⊎◌, ℕ, zero, suc, ◌-◌, ◌<◌, List, [], ◌∷◌, ◌++◌, Option, IfSome, IfErr, OnOk, Result, refl, sym, ◌∙◌, ap, subst, arith, inl, inr}
+use Rattle.std.proofs.Common.{◌≡◌, ℕ, zero, suc, List, [], ◌∷◌, ◌++◌, IfSome, IfErr, OnOk, Result, refl, sym, ◌∙◌, ap, subst, inl, inr}
 use Rattle.std.proofs.lemmas.List.{append_assoc}
 use Rattle.outside.specs.Array.{Array}
 use Rattle.outside.specs.Blocks.{Block, Bounds}

@@ -1,5 +1,5 @@
 -- Symbol table nodes that are read, or refused.
-use Rattle.std.proofs.Common.{◌≡◌, ◌⊎◌, ℕ, List, [], ◌∷◌, ◌++◌, Option, IfSome, IfErr, OnOk, Ok, Err, Result, refl, sym, ◌∙◌, ap, subst, inl, inr}
+use Rattle.std.proofs.Common.{◌≡◌, ℕ, List, [], ◌∷◌, ◌++◌, Option, IfSome, IfErr, OnOk, Ok, Err, Result, refl, sym, ◌∙◌, ap, subst, inl, inr}
 use Rattle.outside.specs.Array.{Array, bytes_of}
 use Rattle.outside.specs.Blocks.{Block, Bounds}
 use Rattle.outside.specs.Space.{SpaceView, bounds_of}
@@ -8,7 +8,7 @@ use Rattle.node_codec.specs.Snod.{SpellsSnod, snod_len}
 use Rattle.node_codec.specs.declared.snod.SnodEntry.{SnodEntry}
 use Rattle.block_space.specs.Blocks.{Keeps, space_of}
 use Rattle.block_space.specs.declared.blocks.Blocks.{Blocks}
-use Rattle.file_model.specs.Groups.{Ks, Found, AreLinks, IsLeaf}
+use Rattle.file_model.specs.Groups.{Ks, AreLinks, IsLeaf}
 use Rattle.file_model.specs.Refusals.{Refusal, Malformed, IsBlockRefused}
 use Rattle.file_model.specs.RefusedGroups.{IsLeafRefused, LeafBlock, NoLeaf, NoName, NoValue, NamesDisordered}
 use Rattle.block_reader.proofs.Stopped.{if_some, if_err}
@@ -16,7 +16,7 @@ use Rattle.block_reader.specs.Stops.{refusal_of}
 use Rattle.block_reader.specs.declared.stop.TreeStop.{TreeStop}
 use Rattle.group_reader.specs.declared.link.FoundLink.{FoundLink}
 use Rattle.group_reader.specs.Links.{Adds}
-use Rattle.group_reader.specs.Entries.{AreEntriesRefused, OneEntry, Disordered, IsEntryRefused}
+use Rattle.group_reader.specs.Entries.{AreEntriesRefused, OneEntry, Disordered}
 use Rattle.group_reader.specs.Reading.{Takes, Refuses}
 
 pub on_ok_then : {T E : Type 0} (r : Result T E) (P Q : Type 0) → (P → Q) → OnOk r P → OnOk r Q

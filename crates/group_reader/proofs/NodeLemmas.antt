@@ -1,5 +1,5 @@
 -- Nodes that are refused by themselves, whatever stands under them.
-use Rattle.std.proofs.Common.{◌≡◌, ℕ, List, Option, IfSome, Err, Result, refl, sym, ◌∙◌, ap, subst, inl, inr}
+use Rattle.std.proofs.Common.{◌≡◌, ℕ, List, Option, IfSome, refl, sym, ◌∙◌, ap, subst, inl, inr}
 use Rattle.outside.specs.Array.{Array, bytes_of}
 use Rattle.outside.specs.Blocks.{Block, Bounds}
 use Rattle.h5_base.specs.declared.kinds.BlockKind.TheVariants as kind
@@ -7,7 +7,7 @@ use Rattle.node_codec.specs.GroupNodes.{SpellsGroupNode, group_node_len}
 use Rattle.node_codec.specs.declared.group_node.GroupNode.{GroupNode}
 use Rattle.file_model.specs.Refusals.{Refusal, Malformed, IsBlockRefused}
 use Rattle.block_reader.proofs.Stopped.{if_some}
-use Rattle.group_reader.specs.Reading.{IsNodeAt, IsHeadRefused}
+use Rattle.group_reader.specs.Reading.{IsHeadRefused}
 
 pub block_head : (b : Array) (e : Bounds) (k : ℕ) (met : List Block) (at len : ℕ) (o : Option Refusal) → len ≡ group_node_len k → IfSome o (IsBlockRefused e met (record { start = at; len = len }) kind.Tree) → IfSome o (IsHeadRefused b e k met at)
 block_head b e k met at len o is h =

@@ -1,10 +1,9 @@
-use Rattle.std.proofs.Common.{◌≡◌, suc, ◌+◌, ◌-◌, ◌≤◌, ℕ, length, get_or, IfSome, sym, arith, rules}
+use Rattle.std.proofs.Common.{◌≡◌, suc, ◌+◌, ◌-◌, length, get_or, IfSome, sym, arith, rules}
 use Rattle.group_reader.specs.Reading.{array_of, ks_of, IsBelow, IsBelowRefused, FitKeys}
-use Rattle.outside.specs.Space.{SpaceView, bounds_of}
+use Rattle.outside.specs.Space.{bounds_of}
 use Rattle.block_space.specs.Blocks.{space_of}
 use Rattle.file_model.specs.RefusedGroups.{IsKeyRefused}
 use Rattle.block_reader.specs.Stops.{refusal_of}
-use Rattle.group_reader.specs.Links.{links_of}
 use Rattle.group_reader.proofs.EntryLemmas.{slice_is, middle_is}
 use Rattle.group_reader.proofs.ChildSteps.{UnderIn, RefusedIn, add_none, add_all, add_child, child_stops, key_stops, cut_at, cut_on, told_of}
 use Rattle.group_reader.proofs.IndexLemmas.{under_zero, under_zero_refused, under_more, under_more_refused, head_index, other_level, index_found, index_refused}

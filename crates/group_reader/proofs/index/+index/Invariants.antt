@@ -1,6 +1,6 @@
 use Rattle.std.proofs.Common.{◌≤◌, ◌+◌, ◌*◌, ℕ, List, IsTrue, length, drop}
 use Rattle.outside.specs.Blocks.{Block}
-use Rattle.block_space.specs.Blocks.{Keeps, space_of}
+use Rattle.block_space.specs.Blocks.{Keeps}
 use Rattle.group_reader.specs.Links.{Adds}
 use Rattle.group_reader.specs.Reading.{array_of, ks_of, IsBelow, IsBelowRefused}
 use Rattle.group_reader.proofs.ChildLemmas.{TakesFirst}

@@ -1,10 +1,8 @@
-use Rattle.std.proofs.Common.{refl, sym, subst, ℕ, IfErr, Err}
-use Rattle.std.specs.declared.result.Result.{Result}
-use Rattle.block_reader.specs.declared.stop.TreeStop.{TreeStop}
-use Rattle.file_model.specs.RefusedGroups.{root_level, IsIndexRefused}
-use Rattle.group_reader.specs.Reading.{array_of, ks_of, Refuses}
-use Rattle.group_reader.proofs.IndexLemmas.{head_index, index_refused}
-use Rattle.group_reader.proofs.TableLemmas.{level_is_root, tree_found, tree_refused}
+use Rattle.std.proofs.Common.{refl, sym}
+use Rattle.file_model.specs.RefusedGroups.{root_level}
+use Rattle.group_reader.specs.Reading.{array_of, ks_of}
+use Rattle.group_reader.proofs.IndexLemmas.{head_index}
+use Rattle.group_reader.proofs.TableLemmas.{tree_found, tree_refused}
 use Rattle.group_reader.proofs.links.read_tree.Goals as goal
 
 pub returns-in-Err-clause-refused : goal.returns-in-Err-clause-refused
