@@ -1,0 +1,17 @@
+use Rattle.std.proofs.Common.{Err, ap, ◌∙◌}
+use Rattle.outside.specs.Space.{bounds_of}
+use Rattle.block_space.specs.Blocks.{space_of}
+use Rattle.block_reader.specs.Stops.{refusal_of}
+use Rattle.group_reader.specs.Reading.{array_of}
+use Rattle.group_reader.proofs.NodeLemmas.{block_head, no_head}
+use Rattle.group_reader.proofs.node.read_node.Goals as goal
+
+pub returns-in-Err-clause-refused : goal.returns-in-Err-clause-refused
+returns-in-Err-clause-refused g c = λ tells met own keeps.
+    block_head (array_of g.V.Space.view c.args.blocks.now) (bounds_of (g.V.Space.view (space_of c.args.blocks.now)) own) c.args.internal_k met c.args.at _ (refusal_of c.in-Err.stop) c.group_node_size-len.ensures
+    (c.in-Err.ensures.refused met own keeps)
+
+pub returns-in-Err-NotThis-clause-refused : goal.returns-in-Err-NotThis-clause-refused
+returns-in-Err-NotThis-clause-refused g c = λ tells met own keeps.
+    no_head (array_of g.V.Space.view c.args.blocks.now) (bounds_of (g.V.Space.view (space_of c.args.blocks.now)) own) c.args.internal_k met c.args.at _ _ c.group_node_size-len.ensures
+    (c.deref.ensures.value ∙ c.in-Ok.ensures.bytes tells) (c.read_group_node.ensures.only (c.in-Err-NotThis.is ∙ ap Err c.in-Err-NotThis.field-0-is))

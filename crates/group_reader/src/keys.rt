@@ -1,0 +1,48 @@
+ghost use Rattle.std.specs.Prelude.{IfErr, IfSome, OnOk, IsErrOf};
+ghost use Rattle.object_model.specs.Tree.{AreOrdered};
+ghost use Rattle.file_model.specs.RefusedGroups.{names_of, IsKeyRefused};
+ghost use Rattle.block_reader.specs.Stops.{refusal_of};
+ghost use Rattle.group_reader.specs.Links.{links_of};
+ghost use Rattle.group_reader.specs.Reading.{FitKeys};
+
+use crate::link::FoundLink;
+use crate::names::{ascend, lie_between};
+use crate::table::Table;
+use crate::text::text_at;
+use block_reader::TreeStop;
+use h5_base::BlockKind;
+
+/// Checks the keys at both sides of a child of the node at `node_at`: that the names of the links `here` under it lie
+/// between them, and come after those of the links `done` under the children before it.
+pub(crate) fn check_keys(
+    table: &Table<'_>,
+    node_at: u64,
+    low_at: u64,
+    high_at: u64,
+    done: &[FoundLink],
+    here: &[FoundLink],
+) -> Result<(), TreeStop>
+    ensures found { AreOrdered (names_of (links_of done.now)) → AreOrdered (names_of (links_of here.now))
+        → OnOk result (FitKeys table.now.segment.now low_at high_at (links_of done.now) (links_of here.now)) }
+    ensures refused { AreOrdered (names_of (links_of done.now)) → AreOrdered (names_of (links_of here.now))
+        → IfErr result (λ stop. IfSome (refusal_of stop) (IsKeyRefused table.now.segment.now table.now.heap_at node_at low_at high_at (links_of done.now) (links_of here.now))) }
+    ensures no_fault { IsErrOf result TreeStop.Failed → ⊥ }
+{
+    let (Some(low), Some(high)) = (
+        text_at(table.segment, low_at),
+        text_at(table.segment, high_at),
+    ) else {
+        return Err(TreeStop::Malformed {
+            at: table.heap_at,
+            kind: BlockKind::Heap,
+        });
+    };
+    if lie_between(low, high, here) && ascend(done, here) {
+        Ok(())
+    } else {
+        Err(TreeStop::Malformed {
+            at: node_at,
+            kind: BlockKind::Tree,
+        })
+    }
+}

@@ -1,0 +1,22 @@
+//! Reads the links of a group: its local heap, its B-tree and the symbol table nodes under it.
+#![tactic(auto)]
+
+mod entries;
+mod heap;
+mod index;
+mod keys;
+mod leaf;
+mod link;
+mod links;
+mod names;
+mod node;
+mod table;
+mod text;
+
+pub use link::{FoundLink, LinkTarget};
+pub use links::read_links;
+
+#[cfg(test)]
+mod memory;
+#[cfg(test)]
+mod tests;
