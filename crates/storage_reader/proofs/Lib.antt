@@ -1,0 +1,4 @@
+pub mod ChunkSizes
+pub mod Orders
+pub mod Children
+pub mod Places

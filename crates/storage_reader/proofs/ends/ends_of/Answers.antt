@@ -1,0 +1,15 @@
+use Rattle.std.proofs.Common.{◌≡◌, ◌-◌, length, get_or, arith}
+use Rattle.storage_reader.specs.Ends.{AreEnds}
+use Rattle.storage_reader.proofs.Places.{leaf_ends}
+use Rattle.storage_reader.proofs.ends.ends_of.Goals as goal
+
+pub returns : goal.returns
+returns c = λ rank sizes cs bs h.
+    let keys = c.args.node.now.keys in
+    let children = c.args.node.now.children in
+    let k = c.index-keys-0.result in
+    let l = c.index-keys-count.result in
+    let low : k ≡ get_or keys 0 k = cc in
+    let high : l ≡ get_or keys (length children - 1) l = cc in
+    let ends : AreEnds k.offset l.offset cs = leaf_ends rank sizes keys children cs bs k l h (omega arith) low high in
+    record ends { first_is = let e = ends.first_is in cc; last_is = let e = ends.last_is in cc }
