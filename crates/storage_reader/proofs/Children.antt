@@ -36,12 +36,12 @@ pub record IsNext (keys : List ChunkKey) (children : List ℕ) (n : ℕ) (k l : 
   pub next_is : drop (n + 1) keys ≡ l ∷ drop (n + 1 + 1) keys
   pub child_is : drop n children ≡ a ∷ drop (n + 1) children
 
-pub next_child : (keys : List ChunkKey) (children : List ℕ) (n : ℕ) (k l : ChunkKey) (a : ℕ) → n < length children → length keys ≡ length children + 1 → k ≡ get_or keys n k → l ≡ get_or keys (n + 1) l
-    → a ≡ get_or children n a → IsNext keys children n k l a
-next_child keys children n k l a lt more key next child = record {
+pub next_child : (keys : List ChunkKey) (children : List ℕ) (n : ℕ) (k l : ChunkKey) → n < length children → length keys ≡ length children + 1 → k ≡ get_or keys n k → l ≡ get_or keys (n + 1) l
+    → IsNext keys children n k l (get_or children n 0)
+next_child keys children n k l lt more key next = record {
   key_is = drop_more keys n k (omega arith) ∙ ap (λ (x : ChunkKey). x ∷ drop (n + 1) keys) (sym key);
   next_is = drop_more keys (n + 1) l (omega arith) ∙ ap (λ (x : ChunkKey). x ∷ drop (n + 1 + 1) keys) (sym next);
-  child_is = drop_more children n a lt ∙ ap (λ (x : ℕ). x ∷ drop (n + 1) children) (sym child);
+  child_is = drop_more children n 0 lt;
 }
 
 not_first : (n : ℕ) → (n + 1 == 0) ≡ false
@@ -106,3 +106,10 @@ child_read Child Refused node keys children n met cs bs k l a here own h at chil
         let z = subst (λ (b : List Block). AreChunksRefused node Child Refused false (l ∷ ls) rest (cs ++ here) b r) (sym (append_assoc met bs own)) y in
         h.refused r (split_refused node Child Refused (n == 0) (drop (n + 1) keys) rest cs (met ++ bs) r (drop n keys) ls (drop n children) k l a at.key_is at.next_is at.child_is
         (inr (here, own, child, inr z)))
+
+-- the test for the last child
+pub not_last : (n count : ℕ) → n < count → (n + 1 == count) ≡ false → n + 1 < count
+not_last n count lt other = grind (arith, nat_tests)
+
+pub last_not : (n count : ℕ) → n + 1 < count → (n + 1 == count) ≡ false
+last_not n count lt = grind (arith, nat_tests)

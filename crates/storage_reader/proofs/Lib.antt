@@ -2,3 +2,5 @@ pub mod ChunkSizes
 pub mod Orders
 pub mod Children
 pub mod Places
+pub mod StopLaws
+pub mod LeafRead

@@ -116,3 +116,6 @@ leaf_ends rank sizes keys [] cs bs k l h some low high = absurd (omega arith)
 leaf_ends rank sizes keys (a ∷ rest) cs bs k l h some low high =
     let n : length (a ∷ rest) - 1 ≡ length rest = omega arith in
     stored_ends rank sizes true keys a rest cs bs k l h low (subst (λ (m : ℕ). l ≡ get_or keys m l) n high)
+
+pub same_ends : (f g l m : List ℕ) (cs : List Chunk) → f ≡ g → l ≡ m → AreEnds f l cs → AreEnds g m cs
+same_ends f g l m cs first last h = subst (λ (x : List ℕ). AreEnds x m cs) first (subst (λ (x : List ℕ). AreEnds f x cs) last h)

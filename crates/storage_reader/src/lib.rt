@@ -2,10 +2,7 @@
 //! or the nodes and chunks of a chunk index. No element is read.
 #![tactic(auto)]
 
-
+mod chunks;
 mod ends;
 mod form;
-
-
-
-
+mod nodes;

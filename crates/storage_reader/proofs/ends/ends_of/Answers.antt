@@ -1,6 +1,6 @@
 use Rattle.std.proofs.Common.{◌≡◌, ◌-◌, length, get_or, arith}
 use Rattle.storage_reader.specs.Ends.{AreEnds}
-use Rattle.storage_reader.proofs.Places.{leaf_ends}
+use Rattle.storage_reader.proofs.Places.{leaf_ends, same_ends}
 use Rattle.storage_reader.proofs.ends.ends_of.Goals as goal
 
 pub returns : goal.returns
@@ -12,4 +12,4 @@ returns c = λ rank sizes cs bs h.
     let low : k ≡ get_or keys 0 k = cc in
     let high : l ≡ get_or keys (length children - 1) l = cc in
     let ends : AreEnds k.offset l.offset cs = leaf_ends rank sizes keys children cs bs k l h (omega arith) low high in
-    record ends { first_is = let e = ends.first_is in cc; last_is = let e = ends.last_is in cc }
+    same_ends k.offset c.in_ok-from_slice.field-0 l.offset c.in_ok-from_slice-2.field-0 cs (cc) (cc) ends
