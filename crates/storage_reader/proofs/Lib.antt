@@ -4,3 +4,5 @@ pub mod Children
 pub mod Places
 pub mod StopLaws
 pub mod LeafRead
+pub mod NodeLaws
+pub mod InnerRead

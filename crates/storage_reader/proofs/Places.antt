@@ -1,6 +1,7 @@
 -- The ends of lists of chunks decide whether keys and lists are in order.
-use Rattle.std.proofs.Common.{◌≡◌, ℕ, suc, ◌+◌, ◌-◌, ◌<◌, ◌||◌, Bool, true, false, not, IsTrue, ◌↔◌, List, [], ◌∷◌, ◌++◌, Option, Some, None, length, get_or, refl, sym, subst, ap, ◌∙◌, arith}
-use Rattle.std.proofs.lemmas.List.{append_assoc, append-nil}
+use Rattle.std.proofs.Common.{◌≡◌, ℕ, suc, ◌+◌, ◌-◌, ◌<◌, ◌≤◌, ◌||◌, Bool, true, false, not, IsTrue, ◌↔◌, List, [], ◌∷◌, ◌++◌, Option, Some, None, length, drop, get_or, refl, sym, subst, ap, ◌∙◌, arith}
+use Rattle.std.proofs.lemmas.List.{append_assoc, append-nil, length-drop}
+use Rattle.std.proofs.Math.ListN.{drop_of_length-le}
 use Rattle.outside.specs.Blocks.{Block}
 use Rattle.h5_base.specs.declared.kinds.BlockKind.TheVariants.{Tree}
 use Rattle.node_codec.specs.declared.chunk_node.ChunkKey.{ChunkKey}
@@ -55,10 +56,17 @@ pub from_tested : (low first last : List ℕ) (t : Bool) → t ≡ comes_before 
 from_tested low first last t is cs h ordered =
     (λ yes. at_most_ends low first last cs h ordered (sym is ∙ is_false t yes), λ most. let e : t ≡ false = is ∙ at_most_first low first last cs h most in rw e refl)
 
-pub below_tested : (later high first last : List ℕ) (t : Bool) → t ≡ comes_before last high → 0 < length later → (cs : List Chunk) → AreEnds first last cs → AreAscending cs → (IsTrue t → IsBelow later high cs) × (IsBelow later high cs → IsTrue t)
-below_tested [] high first last t is some cs h ordered = absurd (omega arith)
-below_tested (a ∷ later) high first last t is some cs h ordered =
+below_some : (later high first last : List ℕ) (t : Bool) → t ≡ comes_before last high → 0 < length later → (cs : List Chunk) → AreEnds first last cs → AreAscending cs → (IsTrue t → IsBelow later high cs) × (IsBelow later high cs → IsTrue t)
+below_some [] high first last t is some cs h ordered = absurd (omega arith)
+below_some (a ∷ later) high first last t is some cs h ordered =
     (λ yes. above_ends high first last cs h ordered (sym is ∙ yes), λ above. is ∙ above_final high first last cs h above)
+
+pub below_tested : (children : List ℕ) (n : ℕ) (high first last : List ℕ) (t : Bool) → t ≡ comes_before last high → n < length children → (cs : List Chunk) → AreEnds first last cs → AreAscending cs
+    → (IsTrue t → IsBelow (drop n children) high cs) × (IsBelow (drop n children) high cs → IsTrue t)
+below_tested children n high first last t is lt = below_some (drop n children) high first last t is (omega (arith, length-drop n children))
+
+pub below_last : (children : List ℕ) (n : ℕ) (high : List ℕ) (cs : List Chunk) → length children ≤ n → IsBelow (drop n children) high cs
+below_last children n high cs le = let none : drop n children ≡ [] = drop_of_length-le children le in rw none tt
 
 pub follow_tested : (f l g m : List ℕ) (t : Bool) → t ≡ comes_before l g → (done cs : List Chunk) → AreEnds f l done → AreEnds g m cs → AreAscending done → AreAscending cs
     → (IsTrue t → AreAscending (done ++ cs)) × (AreAscending (done ++ cs) → IsTrue t)

@@ -1,4 +1,4 @@
-ghost use Rattle.std.specs.Prelude.{◌≡◌, ◌↔◌, ◌++◌, ◌≤◌, ◌+◌, ℕ, List, IsTrue, IfOk, length, true, false};
+ghost use Rattle.std.specs.Prelude.{◌≡◌, ◌↔◌, ◌++◌, ◌+◌, ◌<◌, ◌==◌, ℕ, List, IsTrue, IfOk, drop, length, true, false};
 ghost use Rattle.outside.specs.Blocks.{Block};
 ghost use Rattle.h5_base.specs.declared.kinds.BlockKind.TheVariants.{Tree};
 ghost use Rattle.file_model.specs.Chunks.{Chunk, AreAscending, AreChildren, IsFrom, IsBelow, IsStored, comes_before};
@@ -8,7 +8,7 @@ ghost use Rattle.storage_reader.specs.Ends.{AreEnds, HaveEnds, IsInPlace};
 
 use dtype::Dims;
 use h5_base::NoMemory;
-use node_codec::ChunkNode;
+use node_codec::{ChunkKey, ChunkNode};
 use std::alloc::Global;
 use std::cmp::Ordering;
 
@@ -63,11 +63,12 @@ fn is_from(is_first: bool, low: &Dims, ends: &Ends) -> bool
     is_first || !comes_before(&ends.first, low)
 }
 
-// Whether the key behind a child is above each offset under it, or is free, as it is where no child follows.
-fn is_below(later: &[u64], high: &Dims, ends: &Ends) -> bool
-    ensures { (cs : List Chunk) → AreEnds ends.now.first ends.now.last cs → AreAscending cs → (IsTrue result ↔ IsBelow later.now high.now cs) }
+// Whether the key behind child i is above each offset under it, or is free, as it is behind the last child.
+fn is_below(i: usize, children: &[u64], high: &Dims, ends: &Ends) -> bool
+    requires { i < length children.now }
+    ensures { (cs : List Chunk) → AreEnds ends.now.first ends.now.last cs → AreAscending cs → (IsTrue result ↔ IsBelow (drop (i + 1) children.now) high.now cs) }
 {
-    later.len() == 0 || comes_before(&ends.last, high)
+    i + 1 == children.len() || comes_before(&ends.last, high)
 }
 
 // Whether the offsets under a child follow those before them.
@@ -81,27 +82,28 @@ fn follows(before: &Option<Ends>, ends: &Ends) -> bool
     }
 }
 
-// Whether the offsets under a child stand between the keys on both sides of it and behind the offsets before them.
+// Whether the offsets under child i stand between the keys on both sides of it and behind the offsets before them.
 pub(crate) fn is_in_place(
-    is_first: bool,
-    low: &Dims,
-    high: &Dims,
-    later: &[u64],
+    i: usize,
+    children: &[u64],
+    low: &ChunkKey,
+    high: &ChunkKey,
     before: &Option<Ends>,
     here: &Option<Ends>,
 ) -> bool
+    requires { i < length children.now }
     ensures yes { IsTrue result → (done cs : List Chunk) → HaveEnds before.now done → HaveEnds here.now cs → AreAscending done → AreAscending cs
-        → IsInPlace is_first low.now high.now later.now done cs }
+        → IsInPlace (i == 0) low.now.offset high.now.offset (drop (i + 1) children.now) done cs }
     ensures no { result ≡ false → (done cs : List Chunk) → HaveEnds before.now done → HaveEnds here.now cs → AreAscending done → AreAscending cs
-        → (node : ℕ) → AreOffsetsRefused node is_first low.now high.now later.now done cs (Malformed node Tree) }
+        → (node : ℕ) → AreOffsetsRefused node (i == 0) low.now.offset high.now.offset (drop (i + 1) children.now) done cs (Malformed node Tree) }
 {
     let Some(ends) = here else {
         return true;
     };
-    if !is_from(is_first, low, ends) {
+    if !is_from(i == 0, &low.offset, ends) {
         return false;
     }
-    if !is_below(later, high, ends) {
+    if !is_below(i, children, &high.offset, ends) {
         return false;
     }
     follows(before, ends)

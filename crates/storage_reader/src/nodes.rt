@@ -115,10 +115,10 @@ fn adopt_nodes<V: Space>(
     let children = node.children.as_slice();
     let mut before = None;
     for (i, child) in children.iter().enumerate() {
-        let low = &keys[i].offset;
-        let high = &keys[i + 1].offset;
+        let low = &keys[i];
+        let high = &keys[i + 1];
         let here = adopt_node(alloc, blocks, *child, level, form)?;
-        if !is_in_place(i == 0, low, high, &children[i + 1..], &before, &here) {
+        if !is_in_place(i, children, low, high, &before, &here) {
             return Err(malformed(at));
         }
         before = join(before, here);
