@@ -6,3 +6,4 @@ pub mod StopLaws
 pub mod LeafRead
 pub mod NodeLaws
 pub mod InnerRead
+pub mod StorageLaws

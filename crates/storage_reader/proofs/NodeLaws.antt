@@ -7,10 +7,10 @@ use Rattle.h5_base.specs.declared.kinds.BlockKind.TheVariants.{Tree}
 use Rattle.node_codec.specs.ChunkNodes.{SpellsChunkNode, chunk_node_len}
 use Rattle.node_codec.specs.declared.chunk_node.ChunkNode.{ChunkNode}
 use Rattle.node_codec.specs.declared.chunk_node.ChunkKey.{ChunkKey}
-use Rattle.file_model.specs.Chunks.{Chunk, AreAscending, AreChildren, IsIndex, IsNode, IsStored}
+use Rattle.file_model.specs.Chunks.{Chunk, AreAscending, AreChildren, IsIndex, IsIndexed, IsNode, IsStored}
 use Rattle.file_model.specs.Refusals.{Refusal, IsBlockRefused}
 use Rattle.file_model.specs.Refusals.Refusal.{Malformed}
-use Rattle.file_model.specs.RefusedChunks.{AreChunksRefused, IsChunkRefused, IsChunkIndexRefused, NodeBlock, NoNode, InChildren}
+use Rattle.file_model.specs.RefusedChunks.{AreChunksRefused, IsChunkRefused, IsChunkIndexRefused, NodeBlock, NoNode, InChildren, chunk_level}
 use Rattle.block_reader.specs.Stops.{refusal_of}
 use Rattle.block_reader.specs.declared.stop.TreeStop.{TreeStop}
 use Rattle.block_reader.proofs.Stopped.{if_some}
@@ -99,3 +99,11 @@ leaf_stopped b e k rank sizes level node keys children met stop is h =
 -- a block spells one node
 pub other_level : (k rank level : ℕ) (n m : ChunkNode) (bytes : List ℕ) → SpellsChunkNode k rank n bytes → (n.level ≡ level → ⊥) → SpellsChunkNode k rank m bytes → m.level ≡ level → ⊥
 other_level k rank level n m bytes h other g is = other (ap (λ (x : ChunkNode). x.level) (h.value ∙ sym g.value) ∙ is)
+
+-- the index under a root of any level
+pub indexed : (b : Array) (k rank : ℕ) (sizes : List ℕ) (level at : ℕ) (ends : Option Ends) (Keeps : List Block → Type 0) (met : List Block) → Taken (IsIndex b k rank sizes level at) ends Keeps met
+    → (cs : List Chunk) × (bs : List Block) × IsIndexed true b k rank sizes at cs bs × Keeps (met ++ bs)
+indexed b k rank sizes level at ends Keeps met h = (h.chunks, h.blocks, (level, h.held, h.ordered), h.kept)
+
+pub root_level : (b : Array) (k rank at : ℕ) (n : ChunkNode) → SpellsChunkNode k rank n (bytes_of b at (chunk_node_len k rank)) → n.level ≡ chunk_level b k rank at
+root_level b k rank at n h = ap (λ (x : ChunkNode). x.level) h.value

@@ -1,7 +1,6 @@
 -- The ends of lists of chunks decide whether keys and lists are in order.
 use Rattle.std.proofs.Common.{◌≡◌, ℕ, suc, ◌+◌, ◌-◌, ◌<◌, ◌≤◌, ◌||◌, Bool, true, false, not, IsTrue, ◌↔◌, List, [], ◌∷◌, ◌++◌, Option, Some, None, length, drop, get_or, refl, sym, subst, ap, ◌∙◌, arith}
 use Rattle.std.proofs.lemmas.List.{append_assoc, append-nil, length-drop}
-use Rattle.std.proofs.Math.ListN.{drop_of_length-le}
 use Rattle.outside.specs.Blocks.{Block}
 use Rattle.h5_base.specs.declared.kinds.BlockKind.TheVariants.{Tree}
 use Rattle.node_codec.specs.declared.chunk_node.ChunkKey.{ChunkKey}
@@ -64,9 +63,6 @@ below_some (a ∷ later) high first last t is some cs h ordered =
 pub below_tested : (children : List ℕ) (n : ℕ) (high first last : List ℕ) (t : Bool) → t ≡ comes_before last high → n < length children → (cs : List Chunk) → AreEnds first last cs → AreAscending cs
     → (IsTrue t → IsBelow (drop n children) high cs) × (IsBelow (drop n children) high cs → IsTrue t)
 below_tested children n high first last t is lt = below_some (drop n children) high first last t is (omega (arith, length-drop n children))
-
-pub below_last : (children : List ℕ) (n : ℕ) (high : List ℕ) (cs : List Chunk) → length children ≤ n → IsBelow (drop n children) high cs
-below_last children n high cs le = let none : drop n children ≡ [] = drop_of_length-le children le in rw none tt
 
 pub follow_tested : (f l g m : List ℕ) (t : Bool) → t ≡ comes_before l g → (done cs : List Chunk) → AreEnds f l done → AreEnds g m cs → AreAscending done → AreAscending cs
     → (IsTrue t → AreAscending (done ++ cs)) × (AreAscending (done ++ cs) → IsTrue t)

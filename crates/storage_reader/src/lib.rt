@@ -6,3 +6,6 @@ mod chunks;
 mod ends;
 mod form;
 mod nodes;
+mod storage;
+
+pub use storage::adopt_storage;
