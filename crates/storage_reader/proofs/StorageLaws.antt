@@ -8,6 +8,7 @@ use Rattle.dtype.specs.Products.{product}
 use Rattle.dtype.specs.Types.{size_of}
 use Rattle.dtype.specs.declared.types.ElemType.{ElemType}
 use Rattle.dtype.specs.declared.types.Shape.{Shape}
+use Rattle.header_codec.specs.Layouts.{IsOfShape}
 use Rattle.header_codec.specs.declared.types.Layout.{Layout}
 use Rattle.header_codec.specs.declared.types.Layout.TheVariants as layout
 use Rattle.file_model.specs.Objects.{DataInfo}
@@ -17,6 +18,8 @@ use Rattle.file_model.specs.RefusedChunks.{IsChunkIndexRefused, IsStorageRefused
 use Rattle.block_reader.specs.Stops.{refusal_of}
 use Rattle.block_reader.specs.declared.stop.TreeStop.{TreeStop}
 use Rattle.block_reader.proofs.Stopped.{if_some}
+use Rattle.storage_reader.specs.Forms.{IsForm}
+use Rattle.storage_reader.specs.declared.form.Form.{Form}
 
 -- whether an index is read, by the dataset's own flag
 reads : (i : DataInfo) (tree : ℕ) (filtered t : Bool) → i.filtered ≡ filtered → t ≡ (not (tree == undefined) && not filtered) → is_read i tree ≡ t
@@ -67,3 +70,9 @@ pub raw_stopped : (b : Array) (e : Bounds) (k : ℕ) (i : DataInfo) (at len : �
 raw_stopped b e k i at len shape elem l met stop shape_is elem_is layout_is is h =
     if_some (refusal_of stop) (IsPlacedRefused e met at (product shape.dims * size_of elem) Raw) (IsStorageRefused b e k i met)
     (λ r x. RawBlock at len (layout_is ∙ is) h.0 (subst (λ (n : ℕ). IsPlacedRefused e met at n Raw r) (bytes_are i shape elem shape_is elem_is) x)) h.1
+
+-- a chunk has the dimensions of its dataset
+pub rank_of : (f : Form) (tree size : ℕ) (sizes dims : List ℕ) (l : Layout) → IsForm f → f.sizes ≡ sizes → l ≡ layout.Chunked tree sizes → IsOfShape (length dims) size l → f.rank ≡ length dims
+rank_of f tree size sizes dims l h same is shape =
+    let of_shape : IsOfShape (length dims) size (layout.Chunked tree sizes) = subst (IsOfShape (length dims) size) is shape in
+    omega (arith, h.rank_is, ap length same, of_shape.0)
