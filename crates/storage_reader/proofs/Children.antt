@@ -1,11 +1,11 @@
 -- The children of a node as far as they were read, and the one after them.
-use Rattle.std.proofs.Common.{◌≡◌, ◌⊎◌, ℕ, zero, suc, ◌+◌, ◌-◌, ◌<◌, ◌≤◌, ◌==◌, Bool, true, false, List, [], ◌∷◌, ◌++◌, length, drop, get_or, refl, sym, ◌∙◌, ap, subst, arith, inl, inr}
+use Rattle.std.proofs.Common.{◌≡◌, ℕ, ◌+◌, ◌<◌, ◌==◌, Bool, true, false, List, [], ◌∷◌, ◌++◌, length, drop, get_or, refl, sym, ◌∙◌, ap, subst, arith, inl, inr}
 use Rattle.std.proofs.lemmas.Bool.Decides.{nat_tests}
 use Rattle.std.proofs.Math.Seq.{drop-length}
 use Rattle.std.proofs.lemmas.List.{append_assoc, append-nil, drop_more}
 use Rattle.outside.specs.Blocks.{Block}
 use Rattle.node_codec.specs.declared.chunk_node.ChunkKey.{ChunkKey}
-use Rattle.file_model.specs.Chunks.{Chunk, Under, AreAscending, AreChildren, IsFrom, IsBelow}
+use Rattle.file_model.specs.Chunks.{Chunk, Under, AreChildren, IsFrom, IsBelow}
 use Rattle.file_model.specs.Refusals.{Refusal}
 use Rattle.file_model.specs.RefusedChunks.{RefusedChunks, AreOffsetsRefused, AreChunksRefused}
 
@@ -93,16 +93,16 @@ child_read Child Refused node keys children n met cs bs k l a here own h at chil
     held_on later more x =
         let y : AreChildren Child false (l ∷ ls) rest later more = subst (λ (t : Bool). AreChildren Child t (l ∷ ls) rest later more) (not_first n) (subst (λ (z : List ChunkKey). AreChildren Child (n + 1 == 0) z rest later more) at.next_is x) in
         let z : AreChildren Child true keys children (cs ++ (here ++ later)) (bs ++ (own ++ more)) =
-            h.held (here ++ later) (own ++ more) (split Child (n == 0) (drop (n + 1) keys) rest (here ++ later) (own ++ more) (drop n keys) ls (drop n children) k l a at.key_is at.next_is at.child_is
-            (here, later, own, more, child, y, from, below, refl, refl)) in
+        h.held (here ++ later) (own ++ more) (split Child (n == 0) (drop (n + 1) keys) rest (here ++ later) (own ++ more) (drop n keys) ls (drop n children) k l a at.key_is at.next_is at.child_is
+        (here, later, own, more, child, y, from, below, refl, refl)) in
         subst (λ (c : List Chunk). AreChildren Child true keys children c ((bs ++ own) ++ more)) (sym (append_assoc cs here later))
         (subst (λ (b : List Block). AreChildren Child true keys children (cs ++ (here ++ later)) b) (sym (append_assoc bs own more)) z)
 
     refused_on : (r : Refusal) → AreChunksRefused node Child Refused (n + 1 == 0) (drop (n + 1) keys) rest (cs ++ here) (met ++ (bs ++ own)) r → AreChunksRefused node Child Refused true keys children [] met r
     refused_on r x =
         let y : AreChunksRefused node Child Refused false (l ∷ ls) rest (cs ++ here) (met ++ (bs ++ own)) r =
-            subst (λ (t : Bool). AreChunksRefused node Child Refused t (l ∷ ls) rest (cs ++ here) (met ++ (bs ++ own)) r) (not_first n)
-            (subst (λ (z : List ChunkKey). AreChunksRefused node Child Refused (n + 1 == 0) z rest (cs ++ here) (met ++ (bs ++ own)) r) at.next_is x) in
+        subst (λ (t : Bool). AreChunksRefused node Child Refused t (l ∷ ls) rest (cs ++ here) (met ++ (bs ++ own)) r) (not_first n)
+        (subst (λ (z : List ChunkKey). AreChunksRefused node Child Refused (n + 1 == 0) z rest (cs ++ here) (met ++ (bs ++ own)) r) at.next_is x) in
         let z = subst (λ (b : List Block). AreChunksRefused node Child Refused false (l ∷ ls) rest (cs ++ here) b r) (sym (append_assoc met bs own)) y in
         h.refused r (split_refused node Child Refused (n == 0) (drop (n + 1) keys) rest cs (met ++ bs) r (drop n keys) ls (drop n children) k l a at.key_is at.next_is at.child_is
         (inr (here, own, child, inr z)))

@@ -1,12 +1,11 @@
 -- The nodes under a node as far as they were read.
-use Rattle.std.proofs.Common.{◌≡◌, ℕ, zero, suc, ◌+◌, ◌<◌, ◌==◌, Bool, true, false, IsTrue, List, [], ◌∷◌, ◌++◌, length, drop, get_or, Option, None, IfSome, refl, sym, ◌∙◌, ap, subst, arith}
+use Rattle.std.proofs.Common.{◌≡◌, ℕ, suc, ◌+◌, ◌==◌, true, List, [], ◌++◌, length, drop, Option, None, IfSome, refl, sym, subst}
 use Rattle.std.proofs.lemmas.List.{append_assoc, append-nil}
 use Rattle.outside.specs.Array.{Array}
 use Rattle.outside.specs.Blocks.{Block, Bounds}
 use Rattle.h5_base.specs.declared.kinds.BlockKind.TheVariants.{Tree}
 use Rattle.node_codec.specs.declared.chunk_node.ChunkKey.{ChunkKey}
 use Rattle.file_model.specs.Chunks.{Chunk, AreAscending, AreChildren, IsIndex}
-use Rattle.file_model.specs.Refusals.{Refusal}
 use Rattle.file_model.specs.Refusals.Refusal.{Malformed}
 use Rattle.file_model.specs.RefusedChunks.{AreOffsetsRefused, AreChunksRefused, IsChunkIndexRefused}
 use Rattle.block_reader.specs.Stops.{refusal_of}

@@ -1,12 +1,10 @@
 -- The chunks under a node of level 0 as far as they were read.
-use Rattle.std.proofs.Common.{◌≡◌, ℕ, zero, suc, ◌+◌, ◌-◌, ◌<◌, ◌==◌, Bool, true, false, IsTrue, List, [], ◌∷◌, ◌++◌, length, drop, Option, IfSome, refl, sym, ◌∙◌, ap, subst, arith}
+use Rattle.std.proofs.Common.{◌≡◌, ℕ, ◌+◌, ◌<◌, ◌==◌, Bool, true, false, IsTrue, List, [], ◌∷◌, ◌++◌, length, drop, IfSome, refl, sym, ◌∙◌, subst, arith}
 use Rattle.std.proofs.lemmas.List.{append_assoc, append-nil, length-drop}
 use Rattle.outside.specs.Blocks.{Block, Bounds}
 use Rattle.h5_base.specs.declared.kinds.BlockKind.TheVariants.{Tree}
-use Rattle.dtype.specs.Products.{product}
 use Rattle.node_codec.specs.declared.chunk_node.ChunkKey.{ChunkKey}
-use Rattle.file_model.specs.Chunks.{Chunk, AreAscending, AreChildren, IsAbove, IsAtMost, IsBelow, IsFrom, IsStored, comes_before}
-use Rattle.file_model.specs.Refusals.{Refusal}
+use Rattle.file_model.specs.Chunks.{Chunk, AreAscending, AreChildren, IsAbove, IsBelow, IsFrom, IsStored, comes_before}
 use Rattle.file_model.specs.Refusals.Refusal.{Malformed}
 use Rattle.file_model.specs.RefusedChunks.{AreChunksRefused, IsChunkRefused, AboveKey}
 use Rattle.block_reader.specs.Stops.{refusal_of}
@@ -60,11 +58,11 @@ chunk_more e rank sizes node keys children n Keeps Then met k l a own h lt at st
   chunks = h.chunks ++ one ∷ [];
   blocks = h.blocks ++ own;
   read = child_read (IsStored rank sizes) (IsChunkRefused e rank sizes node) node keys children n met h.chunks h.blocks k l a (one ∷ []) own h.read at stored (from_itself (n == 0) k.offset a)
-    (below_dropped children (n + 1) l.offset (one ∷ []) (λ more. (before more, tt)));
+      (below_dropped children (n + 1) l.offset (one ∷ []) (λ more. (before more, tt)));
   ordered = one_more k.offset h.chunks one h.ordered above_here;
   above = λ key later is more.
-    let same : l ≡ key = same_key l key (drop (n + 1 + 1) keys) later (sym at.next_is ∙ is) in
-    subst (λ (x : ChunkKey). IsAbove x.offset (h.chunks ++ one ∷ [])) same (above_more l.offset h.chunks one above_here (before more));
+      let same : l ≡ key = same_key l key (drop (n + 1 + 1) keys) later (sym at.next_is ∙ is) in
+      subst (λ (x : ChunkKey). IsAbove x.offset (h.chunks ++ one ∷ [])) same (above_more l.offset h.chunks one above_here (before more));
   kept = subst Then (append_assoc met h.blocks own) (next (met ++ h.blocks) h.kept);
 }
   where

@@ -1,5 +1,5 @@
 -- A node of a chunk index: held with its children, or refused.
-use Rattle.std.proofs.Common.{◌≡◌, ℕ, zero, suc, ◌+◌, ◌-◌, ◌<◌, true, List, [], ◌∷◌, ◌++◌, Option, IfSome, refl, sym, ◌∙◌, ap, subst, arith}
+use Rattle.std.proofs.Common.{◌≡◌, ℕ, zero, suc, ◌-◌, ◌<◌, true, List, [], ◌∷◌, ◌++◌, Option, IfSome, refl, sym, ◌∙◌, ap, subst, arith}
 use Rattle.std.proofs.lemmas.List.{append_assoc}
 use Rattle.outside.specs.Array.{Array, bytes_of}
 use Rattle.outside.specs.Blocks.{Block, Bounds}
@@ -60,8 +60,8 @@ node_held b k rank sizes level at n ends Keeps met spelled is h = record {
   chunks = h.chunks;
   blocks = record { start = at; len = chunk_node_len k rank } ∷ h.blocks;
   held = subst (λ (m : ℕ). IsIndex b k rank sizes m at h.chunks (record { start = at; len = chunk_node_len k rank } ∷ h.blocks)) is
-    (index_of b k rank sizes n.level at h.chunks (record { start = at; len = chunk_node_len k rank } ∷ h.blocks)
-    (record { node = n; spelled = spelled; level_is = refl; below = h.blocks; children = h.held; blocks = refl }));
+      (index_of b k rank sizes n.level at h.chunks (record { start = at; len = chunk_node_len k rank } ∷ h.blocks)
+      (record { node = n; spelled = spelled; level_is = refl; below = h.blocks; children = h.held; blocks = refl }));
   ordered = h.ordered;
   ends_are = h.ends_are;
   kept = subst Keeps (append_assoc met (record { start = at; len = chunk_node_len k rank } ∷ []) h.blocks) h.kept;

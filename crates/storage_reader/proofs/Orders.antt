@@ -1,11 +1,9 @@
 -- Offsets in order: lists that are joined, and keys beside them.
-use Rattle.std.proofs.Common.{Ordering, Less, Equal, Greater, ◌≡◌, ℕ, Bool, true, false, IsTrue, List, [], ◌∷◌, ◌++◌, refl, sym, subst, ap, ◌∙◌}
+use Rattle.std.proofs.Common.{Ordering, Less, Equal, Greater, ◌≡◌, ℕ, Bool, true, false, IsTrue, List, [], ◌∷◌, ◌++◌, refl}
 use Rattle.std.specs.Ordering.{is_lt, nat_cmp}
-use Rattle.std.specs.Cmp.{IsTotalOrder}
 use Rattle.std.specs.Cmp.Lexicographic.{slice_cmp}
 use Rattle.std.proofs.lemmas.Cmp.{nat_list_cmp_total, tied_itself}
-use Rattle.file_model.specs.Chunks.{Chunk, comes_before, ComesFirst, AreAscending, IsAbove, IsAtMost}
-use Rattle.storage_reader.specs.Ends.{AreEnds}
+use Rattle.file_model.specs.Chunks.{Chunk, comes_before, AreAscending, IsAbove, IsAtMost}
 
 less : (o : Ordering) → IsTrue (is_lt o) → o ≡ Less
 less Less h = refl

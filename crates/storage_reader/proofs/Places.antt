@@ -1,14 +1,10 @@
 -- The ends of lists of chunks decide whether keys and lists are in order.
-use Rattle.std.proofs.Common.{◌≡◌, ℕ, suc, ◌+◌, ◌-◌, ◌<◌, ◌≤◌, ◌||◌, Bool, true, false, not, IsTrue, ◌↔◌, List, [], ◌∷◌, ◌++◌, Option, Some, None, length, drop, get_or, refl, sym, subst, ap, ◌∙◌, arith}
-use Rattle.std.proofs.lemmas.List.{append_assoc, append-nil, length-drop}
+use Rattle.std.proofs.Common.{◌≡◌, ℕ, ◌-◌, ◌<◌, Bool, true, false, not, IsTrue, List, [], ◌∷◌, ◌++◌, length, drop, get_or, refl, sym, subst, ap, ◌∙◌, arith}
+use Rattle.std.proofs.lemmas.List.{append_assoc, length-drop}
 use Rattle.outside.specs.Blocks.{Block}
-use Rattle.h5_base.specs.declared.kinds.BlockKind.TheVariants.{Tree}
 use Rattle.node_codec.specs.declared.chunk_node.ChunkKey.{ChunkKey}
-use Rattle.file_model.specs.Chunks.{Chunk, AreAscending, AreChildren, IsStored, IsFrom, IsBelow, IsAtMost, IsAbove, comes_before}
-use Rattle.file_model.specs.Refusals.Refusal.{Malformed}
-use Rattle.file_model.specs.RefusedChunks.{AreOffsetsRefused, BelowKey, AboveKey, OffsetsDisordered}
-use Rattle.storage_reader.specs.Ends.{AreEnds, HaveEnds, IsInPlace}
-use Rattle.storage_reader.specs.declared.ends.Ends.{Ends}
+use Rattle.file_model.specs.Chunks.{Chunk, AreAscending, AreChildren, IsStored, IsBelow, IsAtMost, IsAbove, comes_before}
+use Rattle.storage_reader.specs.Ends.{AreEnds}
 use Rattle.storage_reader.proofs.Orders.{at_most_all, above_all, above_last, joined, between}
 
 -- the key is at most all of them where it is at most the first
@@ -34,7 +30,7 @@ above_final key first last cs h above =
 pub join_ordered : (f l g m : List ℕ) (done cs : List Chunk) → AreEnds f l done → AreEnds g m cs → AreAscending done → AreAscending cs → IsTrue (comes_before l g) → AreAscending (done ++ cs)
 join_ordered f l g m done cs h k a b lt =
     let lt' : IsTrue (comes_before h.final.offset k.head.offset) =
-        subst (λ (x : List ℕ). IsTrue (comes_before x k.head.offset)) (sym h.last_is) (subst (λ (x : List ℕ). IsTrue (comes_before l x)) (sym k.first_is) lt) in
+    subst (λ (x : List ℕ). IsTrue (comes_before x k.head.offset)) (sym h.last_is) (subst (λ (x : List ℕ). IsTrue (comes_before l x)) (sym k.first_is) lt) in
     subst (λ (x : List Chunk). AreAscending (x ++ cs)) (sym h.finishes)
     (subst (λ (x : List Chunk). AreAscending ((h.front ++ h.final ∷ []) ++ x)) (sym k.begins)
     (joined h.front h.final k.head k.tail (subst AreAscending h.finishes a) (subst AreAscending k.begins b) lt'))
@@ -42,7 +38,7 @@ join_ordered f l g m done cs h k a b lt =
 pub ordered_between : (f l g m : List ℕ) (done cs : List Chunk) → AreEnds f l done → AreEnds g m cs → AreAscending (done ++ cs) → IsTrue (comes_before l g)
 ordered_between f l g m done cs h k a =
     let b : AreAscending ((h.front ++ h.final ∷ []) ++ (k.head ∷ k.tail)) =
-        subst (λ (x : List Chunk). AreAscending ((h.front ++ h.final ∷ []) ++ x)) k.begins (subst (λ (x : List Chunk). AreAscending (x ++ cs)) h.finishes a) in
+    subst (λ (x : List Chunk). AreAscending ((h.front ++ h.final ∷ []) ++ x)) k.begins (subst (λ (x : List Chunk). AreAscending (x ++ cs)) h.finishes a) in
     subst (λ (x : List ℕ). IsTrue (comes_before l x)) k.first_is (subst (λ (x : List ℕ). IsTrue (comes_before x k.head.offset)) h.last_is (between h.front h.final k.head k.tail b))
 
 -- ---- the tests

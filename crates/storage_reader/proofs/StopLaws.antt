@@ -1,11 +1,11 @@
 -- Why a chunk, a node or a child stops the reading of an index.
-use Rattle.std.proofs.Common.{◌≡◌, ℕ, List, [], ◌∷◌, ◌++◌, Option, Some, None, Result, Ok, Err, IfErr, IfSome, IsErrAnd, refl, sym, subst}
+use Rattle.std.proofs.Common.{◌≡◌, ℕ, List, Result, IfErr, IfSome, IsErrAnd, sym, subst}
 use Rattle.std.proofs.lemmas.Result.{err_from_is_err_and}
 use Rattle.outside.specs.Blocks.{Block, Bounds}
 use Rattle.h5_base.specs.declared.kinds.BlockKind.TheVariants.{Raw}
 use Rattle.dtype.specs.Products.{product}
 use Rattle.node_codec.specs.declared.chunk_node.ChunkKey.{ChunkKey}
-use Rattle.file_model.specs.Refusals.{Refusal, IsBlockRefused}
+use Rattle.file_model.specs.Refusals.{IsBlockRefused}
 use Rattle.file_model.specs.RefusedChunks.{IsChunkRefused, ChunkBlock}
 use Rattle.block_reader.specs.Stops.{refusal_of}
 use Rattle.block_reader.specs.declared.stop.TreeStop.{TreeStop}

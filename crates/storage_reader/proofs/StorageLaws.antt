@@ -1,5 +1,5 @@
 -- What is stored of a dataset, by what its layout tells.
-use Rattle.std.proofs.Common.{◌≡◌, ◌≢◌, ℕ, ◌+◌, ◌*◌, ◌==◌, Bool, true, false, not, ◌&&◌, IsTrue, List, [], ◌∷◌, ◌++◌, length, if◌then◌else◌, Option, IfSome, refl, sym, ◌∙◌, ap, subst, arith}
+use Rattle.std.proofs.Common.{◌≡◌, ◌≢◌, ℕ, ◌*◌, ◌==◌, Bool, true, false, not, ◌&&◌, List, [], ◌++◌, length, if◌then◌else◌, IfSome, refl, sym, ◌∙◌, ap, subst, arith, inl, inr}
 use Rattle.std.proofs.lemmas.List.{append-nil}
 use Rattle.outside.specs.Array.{Array}
 use Rattle.outside.specs.Blocks.{Block, Bounds, placed, undefined}
@@ -8,12 +8,13 @@ use Rattle.dtype.specs.Products.{product}
 use Rattle.dtype.specs.Types.{size_of}
 use Rattle.dtype.specs.declared.types.ElemType.{ElemType}
 use Rattle.dtype.specs.declared.types.Shape.{Shape}
-use Rattle.header_codec.specs.Layouts.{IsOfShape}
+use Rattle.header_codec.specs.Layouts.{IsOfShape, SpellsLayout}
+use Rattle.header_codec.specs.Written.{IsLayout}
 use Rattle.header_codec.specs.declared.types.Layout.{Layout}
 use Rattle.header_codec.specs.declared.types.Layout.TheVariants as layout
 use Rattle.file_model.specs.Objects.{DataInfo}
 use Rattle.file_model.specs.Chunks.{Chunk, IsIndexed, IsStoredBy, is_read}
-use Rattle.file_model.specs.Refusals.{Refusal, IsPlacedRefused}
+use Rattle.file_model.specs.Refusals.{IsPlacedRefused}
 use Rattle.file_model.specs.RefusedChunks.{IsChunkIndexRefused, IsStorageRefused, RawBlock, InIndex, chunk_level}
 use Rattle.block_reader.specs.Stops.{refusal_of}
 use Rattle.block_reader.specs.declared.stop.TreeStop.{TreeStop}
@@ -76,3 +77,8 @@ pub rank_of : (f : Form) (tree size : ℕ) (sizes dims : List ℕ) (l : Layout) 
 rank_of f tree size sizes dims l h same is shape =
     let of_shape : IsOfShape (length dims) size (layout.Chunked tree sizes) = subst (IsOfShape (length dims) size) is shape in
     omega (arith, h.rank_is, ap length same, of_shape.0)
+
+-- a layout that a message spells can be read: what a caller shows of `adopt_storage`
+pub spelled_layout : (l : Layout) (b : List ℕ) → SpellsLayout l b → IsLayout l
+spelled_layout l b (inl h) = subst IsLayout (sym h.1) tt
+spelled_layout l b (inr h) = subst IsLayout (sym h.1) h.0.chunk

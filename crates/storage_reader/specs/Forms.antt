@@ -1,6 +1,6 @@
 -- Which form the chunks of a dataset have.
 -- Cited by the functions that read a chunk index.
-use Rattle.std.specs.Prelude.{◌≡◌, ℕ, ◌+◌, length}
+use Rattle.std.specs.Prelude.{◌≡◌, ◌+◌, length}
 use Rattle.dtype.specs.Products.{product}
 use Rattle.header_codec.specs.Layouts.{IsChunk}
 use Rattle.storage_reader.specs.declared.form.Form.{Form}

@@ -1,4 +1,4 @@
-use Rattle.std.proofs.Common.{◌<◌, arith, subst, sym}
+use Rattle.std.proofs.Common.{arith}
 use Rattle.storage_reader.proofs.ChunkSizes.{some_bytes}
 use Rattle.storage_reader.proofs.StopLaws.{handed, chunk_block}
 use Rattle.storage_reader.proofs.chunks.adopt_chunk.Goals as goal

@@ -1,14 +1,9 @@
-use Rattle.std.proofs.Common.{◌≡◌, ℕ, ◌+◌, ◌<◌, ◌==◌, List, [], ◌∷◌, ◌++◌, IsTrue, true, false, Bool, length, get_or, arith, refl, sym, ap, subst, Option, None, IfSome}
-use Rattle.std.proofs.lemmas.Bool.Decides.{nat_tests}
-use Rattle.outside.specs.Blocks.{Block}
+use Rattle.std.proofs.Common.{◌≡◌, ◌+◌, ◌<◌, [], ◌∷◌, length, get_or, arith, refl, ap, None}
 use Rattle.outside.specs.Space.{bounds_of}
 use Rattle.dtype.specs.Products.{product}
 use Rattle.block_space.specs.Blocks.{Keeps, space_of}
-use Rattle.block_reader.specs.Stops.{refusal_of}
-use Rattle.file_model.specs.Chunks.{comes_before}
-use Rattle.file_model.specs.RefusedChunks.{IsChunkRefused}
 use Rattle.storage_reader.proofs.Children.{IsNext, next_child, not_last, last_not}
-use Rattle.storage_reader.proofs.LeafRead.{ChunksRead, no_chunk_read, chunk_more, chunk_stopped, key_stopped, chunks_done}
+use Rattle.storage_reader.proofs.LeafRead.{no_chunk_read, chunk_more, chunk_stopped, key_stopped, chunks_done}
 use Rattle.storage_reader.proofs.StopLaws.{handed}
 use Rattle.storage_reader.proofs.chunks.adopt_chunks.Goals as goal
 
@@ -68,10 +63,10 @@ loop-i-preserved g c =
     let at : IsNext keys children i k l (get_or children i 0) = next_child keys children i k l lt c.requires.node.one_more key next in
     record {
       read = λ met own keeps.
-        chunk_more (bounds_of (g.V.Space.view (space_of c.args.blocks.now)) own) f.rank f.sizes c.args.at keys children i (Keeps g.V.Space.view c.loop-i.blocks) (Keeps g.V.Space.view c.adopt_chunk.new.blocks) met k l (get_or children i 0)
-        (record { start = get_or children i 0; len = product f.sizes } ∷ [])
-        (c.loop-i.invariant.read met own keeps) lt at (rw (← same) c.in_ok-adopt_chunk.ensures.found) (rw (← same) c.in_ok-adopt_chunk.ensures.kept)
-        (λ more. c.if-not-is_above.ensures.yes refl (rw same (last_not i (length children) more)));
+          chunk_more (bounds_of (g.V.Space.view (space_of c.args.blocks.now)) own) f.rank f.sizes c.args.at keys children i (Keeps g.V.Space.view c.loop-i.blocks) (Keeps g.V.Space.view c.adopt_chunk.new.blocks) met k l (get_or children i 0)
+          (record { start = get_or children i 0; len = product f.sizes } ∷ [])
+          (c.loop-i.invariant.read met own keeps) lt at (rw (← same) c.in_ok-adopt_chunk.ensures.found) (rw (← same) c.in_ok-adopt_chunk.ensures.kept)
+          (λ more. c.if-not-is_above.ensures.yes refl (rw same (last_not i (length children) more)));
       space = cc;
     }
 

@@ -8,6 +8,6 @@ use Rattle.storage_reader.proofs.chunks.adopt_chunks.Given as goal
 abbrev pub invariant-loop-i : goal.invariant-loop-i
 invariant-loop-i g l = record {
   read : (met : List Block) (own : Option (List ℕ)) → Keeps g.V.Space.view l.initial.blocks met
-    → ChunksRead (bounds_of (g.V.Space.view (space_of l.initial.blocks)) own) l.form.rank l.form.sizes l.fn.at l.node.keys l.node.children l.i (Keeps g.V.Space.view l.blocks) met;
+      → ChunksRead (bounds_of (g.V.Space.view (space_of l.initial.blocks)) own) l.form.rank l.form.sizes l.fn.at l.node.keys l.node.children l.i (Keeps g.V.Space.view l.blocks) met;
   space : space_of l.blocks ≡ space_of l.initial.blocks;
 }

@@ -1,6 +1,5 @@
 use Rattle.std.proofs.Common.{◌≡◌, ◌-◌, length, get_or, arith, sym, ap, ◌∙◌}
 use Rattle.node_codec.specs.declared.chunk_node.ChunkKey.{ChunkKey}
-use Rattle.storage_reader.specs.Ends.{AreEnds}
 use Rattle.storage_reader.proofs.Places.{leaf_ends, same_ends}
 use Rattle.storage_reader.proofs.ends.ends_of.Goals as goal
 

@@ -1,4 +1,4 @@
-use Rattle.std.proofs.Common.{refl, rules, sym, ◌∙◌, ap}
+use Rattle.std.proofs.Common.{refl}
 use Rattle.file_model.specs.RefusedChunks.{BelowKey, AboveKey}
 use Rattle.storage_reader.proofs.ends.is_in_place.Goals as goal
 

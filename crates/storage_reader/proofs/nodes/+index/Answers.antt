@@ -1,14 +1,10 @@
-use Rattle.std.proofs.Common.{◌≡◌, ◌+◌, ◌-◌, ◌<◌, ◌++◌, ◌∷◌, [], ℕ, List, Option, None, length, suc, rules, refl, sym, arith, get_or, ap}
+use Rattle.std.proofs.Common.{◌≡◌, ◌+◌, ◌-◌, ◌<◌, None, length, rules, refl, arith, get_or, ap}
 use Rattle.std.proofs.lemmas.Result.{IfOk-weaker}
-use Rattle.outside.specs.Array.{bytes_of}
-use Rattle.outside.specs.Blocks.{Block}
 use Rattle.outside.specs.Space.{bounds_of}
 use Rattle.block_space.specs.Blocks.{Keeps, space_of}
-use Rattle.storage_reader.specs.Ends.{HaveEnds}
 use Rattle.block_reader.proofs.Stopped.{if_err}
-use Rattle.node_codec.specs.ChunkNodes.{SpellsChunkNode, chunk_node_len}
 use Rattle.storage_reader.proofs.Children.{IsNext, next_child}
-use Rattle.storage_reader.proofs.InnerRead.{NodesRead, no_node_read, node_more, node_stopped, place_stopped, nodes_done}
+use Rattle.storage_reader.proofs.InnerRead.{no_node_read, node_more, node_stopped, place_stopped, nodes_done}
 use Rattle.storage_reader.proofs.NodeLaws.{no_node, children_stopped, node_held, one_above, at_level, stopped_at_level, leaf_found, other_level}
 use Rattle.storage_reader.proofs.StopLaws.{handed}
 use Rattle.storage_reader.proofs.nodes.+index.Goals as goal
@@ -124,9 +120,9 @@ adopt_nodes-loop-i-preserved g t c =
     let array = (g.V.Space.view (space_of c.args.blocks.now)).array in
     record {
       read = λ tells met own keeps.
-        node_more array (bounds_of (g.V.Space.view (space_of c.args.blocks.now)) own) f.k f.rank f.sizes c.args.level c.args.at keys children i c.loop-i.before c.in_ok-here.here c.join-before.result (Keeps g.V.Space.view c.loop-i.blocks)
-        (Keeps g.V.Space.view c.adopt_node.new.blocks) met low high (get_or children i 0) (c.loop-i.invariant.read tells met own keeps) at
-        (λ now kept. rw (e, ← same) (c.in_ok-here.ensures.found tells now kept)) (λ done cs before here a b. rw (← same) (c.if-not-is_in_place.ensures.yes refl done cs before here a b)) c.join-before.ensures;
+          node_more array (bounds_of (g.V.Space.view (space_of c.args.blocks.now)) own) f.k f.rank f.sizes c.args.level c.args.at keys children i c.loop-i.before c.in_ok-here.here c.join-before.result (Keeps g.V.Space.view c.loop-i.blocks)
+          (Keeps g.V.Space.view c.adopt_node.new.blocks) met low high (get_or children i 0) (c.loop-i.invariant.read tells met own keeps) at
+          (λ now kept. rw (e, ← same) (c.in_ok-here.ensures.found tells now kept)) (λ done cs before here a b. rw (← same) (c.if-not-is_in_place.ensures.yes refl done cs before here a b)) c.join-before.ensures;
       alike = g.V.Kept.transitive _ _ _ c.loop-i.invariant.alike c.adopt_node.ensures.alike;
       stands = search rules;
       listed = c.in_ok-here.ensures.listed;

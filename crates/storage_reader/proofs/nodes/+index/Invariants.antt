@@ -18,7 +18,7 @@ decreases-adopt_nodes g l = 3 * l.level + 3
 abbrev pub invariant-adopt_nodes-loop-i : goal.invariant-adopt_nodes-loop-i
 invariant-adopt_nodes-loop-i g l = record {
   read : IsTrue g.V.Space.tells → (met : List Block) (own : Option (List ℕ)) → Keeps g.V.Space.view l.initial.blocks met
-    → NodesRead (g.V.Space.view (space_of l.initial.blocks)).array (bounds_of (g.V.Space.view (space_of l.initial.blocks)) own) l.form.k l.form.rank l.form.sizes l.fn.level l.fn.at l.node.keys l.node.children l.i l.before
+      → NodesRead (g.V.Space.view (space_of l.initial.blocks)).array (bounds_of (g.V.Space.view (space_of l.initial.blocks)) own) l.form.k l.form.rank l.form.sizes l.fn.level l.fn.at l.node.keys l.node.children l.i l.before
       (Keeps g.V.Space.view l.blocks) met;
   alike : g.V.Kept.Alike (space_of l.initial.blocks) (space_of l.blocks);
   stands : g.V.Space.Stands (space_of l.blocks);

@@ -1,6 +1,5 @@
 use Rattle.std.proofs.Common.{◌≡◌, refl}
 use Rattle.block_space.specs.Blocks.{Keeps, space_of}
-use Rattle.file_model.specs.RefusedChunks.{chunk_level}
 use Rattle.storage_reader.proofs.NodeLaws.{children_stopped, node_held, indexed, root_level}
 use Rattle.storage_reader.proofs.StopLaws.{handed}
 use Rattle.storage_reader.proofs.nodes.adopt_index.Goals as goal

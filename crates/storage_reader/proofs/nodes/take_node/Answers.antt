@@ -1,7 +1,6 @@
-use Rattle.std.proofs.Common.{refl, subst, sym, ap, ◌∙◌}
+use Rattle.std.proofs.Common.{subst, sym, ap, ◌∙◌}
 use Rattle.node_codec.specs.ChunkNodes.{SpellsChunkNode}
 use Rattle.outside.specs.Array.{bytes_of}
-use Rattle.outside.specs.Space.{bounds_of}
 use Rattle.block_space.specs.Blocks.{space_of}
 use Rattle.storage_reader.proofs.NodeLaws.{block_stopped, no_node}
 use Rattle.storage_reader.proofs.StopLaws.{handed}

@@ -34,7 +34,7 @@ returns-in_ok-form-in-Chunked-clause-found g c = λ tells.
     let k = c.in_ok-form-in-Chunked.ensures.k in
     let sizes = c.in_ok-form-in-Chunked.ensures.sizes in
     let rank : f.rank ≡ length c.args.shape.now.dims =
-        rank_of f c.in-Chunked.tree_at (size_of c.args.elem) c.in-Chunked.sizes c.args.shape.now.dims c.args.layout.now c.in_ok-form-in-Chunked.ensures.form sizes c.in-Chunked.is c.requires.stored in
+    rank_of f c.in-Chunked.tree_at (size_of c.args.elem) c.in-Chunked.sizes c.args.shape.now.dims c.args.layout.now c.in_ok-form-in-Chunked.ensures.form sizes c.in-Chunked.is c.requires.stored in
     on_ok_weaker c.adopt_index.result
     (λ found i met shape elem layout filtered keeps.
     index_found (g.V.Space.view (space_of c.args.blocks.now)).array c.args.k i c.in-Chunked.tree_at f.rank c.in-Chunked.sizes c.args.shape.now c.args.layout.now c.args.filtered c.is_read.result
@@ -47,7 +47,7 @@ returns-in_ok-form-in-Chunked-clause-refused g c = λ tells.
     let k = c.in_ok-form-in-Chunked.ensures.k in
     let sizes = c.in_ok-form-in-Chunked.ensures.sizes in
     let rank : f.rank ≡ length c.args.shape.now.dims =
-        rank_of f c.in-Chunked.tree_at (size_of c.args.elem) c.in-Chunked.sizes c.args.shape.now.dims c.args.layout.now c.in_ok-form-in-Chunked.ensures.form sizes c.in-Chunked.is c.requires.stored in
+    rank_of f c.in-Chunked.tree_at (size_of c.args.elem) c.in-Chunked.sizes c.args.shape.now.dims c.args.layout.now c.in_ok-form-in-Chunked.ensures.form sizes c.in-Chunked.is c.requires.stored in
     if_err c.adopt_index.result _ _
     (λ stop refused i met own shape elem layout filtered keeps.
     index_stopped (g.V.Space.view (space_of c.args.blocks.now)).array (bounds_of (g.V.Space.view (space_of c.args.blocks.now)) own) c.args.k i c.in-Chunked.tree_at f.rank c.in-Chunked.sizes c.args.shape.now c.args.layout.now
