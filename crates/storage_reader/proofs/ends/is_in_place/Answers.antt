@@ -1,0 +1,11 @@
+use Rattle.std.proofs.Common.{refl}
+use Rattle.file_model.specs.RefusedChunks.{BelowKey, AboveKey}
+use Rattle.storage_reader.proofs.ends.is_in_place.Goals as goal
+
+pub returns-then-not-is_from-clause-no : goal.returns-then-not-is_from-clause-no
+returns-then-not-is_from-clause-no c = λ no done cs before here a b node.
+    BelowKey (λ from. let yes = (c.is_from.ensures cs (rw c.in-Some.is at here) b).1 from in cc) refl
+
+pub returns-then-not-is_below-clause-no : goal.returns-then-not-is_below-clause-no
+returns-then-not-is_below-clause-no c = λ no done cs before here a b node.
+    AboveKey (λ below. let yes = (c.is_below.ensures cs (rw c.in-Some.is at here) b).1 below in cc) refl

@@ -1,0 +1,27 @@
+-- The first and the last offset of a list of chunks.
+-- Cited by the functions that read a chunk index.
+use Rattle.std.specs.Prelude.{◌≡◌, ℕ, Bool, List, [], ◌∷◌, ◌++◌, Option, Some, None}
+use Rattle.file_model.specs.Chunks.{Chunk, IsFrom, IsBelow, AreAscending}
+use Rattle.storage_reader.specs.declared.ends.Ends.{Ends}
+
+-- the chunks begin with one of this offset, and end with one of that
+pub record AreEnds (first last : List ℕ) (cs : List Chunk) : Type 0 where
+  pub head : Chunk
+  pub tail : List Chunk
+  pub begins : cs ≡ head ∷ tail
+  pub first_is : head.offset ≡ first
+  pub front : List Chunk
+  pub final : Chunk
+  pub finishes : cs ≡ front ++ final ∷ []
+  pub last_is : final.offset ≡ last
+
+-- there are no ends where there is no chunk
+abbrev pub HaveEnds : Option Ends → List Chunk → Type 0
+HaveEnds None cs = cs ≡ []
+HaveEnds (Some e) cs = AreEnds e.first e.last cs
+
+-- The offsets under a child stand between the keys on both sides of it, and behind the offsets before them.
+pub record IsInPlace (first : Bool) (low high : List ℕ) (later : List ℕ) (done here : List Chunk) : Type 0 where
+  pub from : IsFrom first low here
+  pub below : IsBelow later high here
+  pub ordered : AreAscending (done ++ here)
