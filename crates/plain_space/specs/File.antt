@@ -1,12 +1,12 @@
 -- One file of a store by address: what a space over it tells, when it stands and when it rests.
 -- Cited by `PlainSpace`, and by its callers.
-use Rattle.std.specs.Prelude.{◌≡◌, ◌⊎◌, ℕ, ◌+◌, ◌^◌, ◌<◌, ◌≤◌, Bool, true, false, IsTrue, List, length, None}
+use Rattle.std.specs.Prelude.{◌≡◌, ◌≢◌, ℕ, ◌^◌, ◌<◌, Bool, true, false, IsTrue, List, length, Option, Some, None}
 use Rattle.h5_base.specs.declared.extent.Extent.{Extent}
 use Rattle.h5_base.specs.declared.extent.Region.{Region}
 use Rattle.outside.specs.Array.{Array, array_of}
-use Rattle.outside.specs.Files.{Files, RestsAt}
+use Rattle.outside.specs.Files.{Files, Snapshot, RestsAt}
 use Rattle.outside.specs.Space.{SpaceView}
-use Rattle.outside.specs.Store.{View}
+use Rattle.outside.specs.Store.{View, Goes, GoesOver}
 
 -- the bytes of the file with an id
 abbrev pub file_in : View → ℕ → List ℕ
@@ -41,7 +41,12 @@ pub record IsOpen (tells : Bool) (v : View) (id end : ℕ) : Type 0 where
 abbrev pub RestsIn : Bool → Bool → View → (Files → Type 0) → ℕ → Type 0
 RestsIn tells tells_images v leaves id = IsTrue tells → IsTrue tells_images → IsTrue v.honest → RestsAt (v.names id) (file_in v id) leaves
 
--- two stores have the same names, and the same files where they are told
-pub record SameFiles (tells : Bool) (v w : View) : Type 0 where
-  pub names : v.names ≡ w.names
-  pub files : IsTrue tells → (q : List ℕ) → v.files q ≡ w.files q
+-- What a run of calls that only look at one file leaves of its store: names, files and the faults of other files stay, and
+-- each image and each snapshot since is one that a stop could leave before.
+pub record Looks (tells tells_images : Bool) (id : ℕ) (v w : View) (leaves new_leaves : Files → Type 0) (past new_past : Snapshot → Type 0) : Type 0 where
+  pub names : w.names ≡ v.names
+  pub ids : w.ids ≡ v.ids
+  pub goes : Goes tells (λ _. ⊥) v w
+  pub others : (k : Option ℕ) → k ≢ Some id → w.counts k ≡ v.counts k
+  pub fewer : IsTrue tells_images → (c : Files) → new_leaves c → leaves c
+  pub since : IsTrue tells_images → GoesOver (λ _. ⊥) leaves new_leaves past new_past

@@ -1,8 +1,7 @@
-ghost use Rattle.std.specs.Prelude.{◌≡◌, ◌^◌, ◌<◌, ◌≤◌, length, take, drop, Some, IsTrue, IsErr, IfOk, OnOk};
+ghost use Rattle.std.specs.Prelude.{◌≡◌, ◌^◌, ◌<◌, ◌≤◌, length, take, drop, Some, IsTrue, IfOk, OnOk};
 ghost use Rattle.outside.specs.Array.{array_of, bytes_of};
-ghost use Rattle.outside.specs.Files.{Files};
-ghost use Rattle.outside.specs.Store.{Calls};
-ghost use Rattle.plain_space.specs.File.{file_in};
+ghost use Rattle.outside.specs.Causes.{HasCause};
+ghost use Rattle.plain_space.specs.File.{file_in, Looks};
 
 use outside::{Failed, FileId, Store};
 
@@ -20,10 +19,8 @@ fn read_below<S: Store>(
     ensures count { IfOk result (λ n. n ≤ length out.old) }
     ensures bytes { IsTrue S.tells_files → length (file_in (S.view store.old) id.n) ≤ 2 ^ 49 → IfOk result (λ n.
         take n out.new ≡ take (length out.old) (drop at (file_in (S.view store.old) id.n))) }
-    ensures names { (S.view store.new).names ≡ (S.view store.old).names }
-    ensures ids { (S.view store.new).ids ≡ (S.view store.old).ids }
-    ensures call { Calls S.tells_files (Some id.n) (IsErr result) (λ _. ⊥) (S.view store.old) (S.view store.new) }
-    ensures images { IsTrue S.tells_images → (c : Files) → S.leaves store.new c → S.leaves store.old c }
+    ensures looks { Looks S.tells_files S.tells_images id.n (S.view store.old) (S.view store.new) (S.leaves store.old) (S.leaves store.new) (S.past store.old) (S.past store.new) }
+    ensures cause { HasCause ((S.view store.old).counts (Some id.n)) ((S.view store.new).counts (Some id.n)) result }
 {
     if at >= LIMIT {
         return Ok(0);
@@ -32,7 +29,7 @@ fn read_below<S: Store>(
     store.read(id, at, &mut out[..most])
 }
 
-/// Reads the bytes of a file from `at` on, with zeros behind its end.
+/// Reads the bytes of a file from `at` on, with zeros behind its end, in at most one call.
 pub fn read_part<S: Store>(
     store: &mut S,
     id: FileId,
@@ -42,10 +39,8 @@ pub fn read_part<S: Store>(
     requires given { 0 < length ((S.view store.old).names id.n) }
     ensures bytes { IsTrue S.tells_files → length (file_in (S.view store.old) id.n) ≤ 2 ^ 49
         → OnOk result (out.new ≡ bytes_of (array_of (file_in (S.view store.old) id.n)) at (length out.old)) }
-    ensures names { (S.view store.new).names ≡ (S.view store.old).names }
-    ensures ids { (S.view store.new).ids ≡ (S.view store.old).ids }
-    ensures call { Calls S.tells_files (Some id.n) (IsErr result) (λ _. ⊥) (S.view store.old) (S.view store.new) }
-    ensures images { IsTrue S.tells_images → (c : Files) → S.leaves store.new c → S.leaves store.old c }
+    ensures looks { Looks S.tells_files S.tells_images id.n (S.view store.old) (S.view store.new) (S.leaves store.old) (S.leaves store.new) (S.past store.old) (S.past store.new) }
+    ensures cause { HasCause ((S.view store.old).counts (Some id.n)) ((S.view store.new).counts (Some id.n)) result }
 {
     let count = read_below(store, id, at, out)?;
     out[count..].fill(0);

@@ -21,10 +21,10 @@ pub struct PlainSpace<S> {
 }
 
 impl<S: Store> PlainSpace<S> {
-    ghost use Rattle.std.specs.Prelude.{◌<◌, [], ◌∷◌, length, Some, IsTrue, IfOk, OnOk};
-    ghost use Rattle.outside.specs.Files.{Files};
-    ghost use Rattle.outside.specs.Store.{Calls, Passes};
-    ghost use Rattle.plain_space.specs.File.{file_in, view_of, IsOpen, RestsIn};
+    ghost use Rattle.std.specs.Prelude.{◌<◌, [], length, Some, IsTrue, IfOk, OnOk};
+    ghost use Rattle.outside.specs.Array.{array_of};
+    ghost use Rattle.outside.specs.Causes.{Rose};
+    ghost use Rattle.plain_space.specs.File.{file_in, view_of, RestsIn, Looks};
     ghost use Rattle.plain_space.specs.Plain.{store_of, id_of, end_of, prepared_of, store_left, IsRefusedBy};
 
     /// The file with this id, at its length, for which the store is asked in one call. The store is handed back where the
@@ -38,13 +38,11 @@ impl<S: Store> PlainSpace<S> {
         ensures id { IfOk result (λ space. id_of space ≡ id.n) }
         ensures end { IsTrue S.tells_files → IfOk result (λ space. end_of space ≡ length (file_in (S.view store) id.n)) }
         ensures prepared { IfOk result (λ space. prepared_of space ≡ []) }
+        ensures stands { IfOk result (λ space. ⟦<PlainSpace<S> as Space>⟧.Stands space) }
         ensures too_long { IsTrue S.tells_files → IsRefusedBy OpenStop.TooLong result → 2 ^ 48 < length (file_in (S.view store) id.n) }
         ensures short { IsTrue S.tells_files → OnOk result (length (file_in (S.view store) id.n) ≤ 2 ^ 48) }
-        ensures names { (S.view (store_left result)).names ≡ (S.view store).names }
-        ensures ids { (S.view (store_left result)).ids ≡ (S.view store).ids }
-        ensures call { Calls S.tells_files (Some id.n) (IsRefusedBy OpenStop.Failed result) (λ _. ⊥) (S.view store) (S.view (store_left result)) }
-        ensures images { IsTrue S.tells_images → (c : Files) → S.leaves (store_left result) c → S.leaves store c }
-        ensures time { IsTrue S.tells_images → Passes ((S.view (store_left result)).files ∷ []) (S.view (store_left result)) (S.leaves (store_left result)) (S.past store) (S.past (store_left result)) }
+        ensures failed { IsRefusedBy OpenStop.Failed result → Rose ((S.view store).counts (Some id.n)) ((S.view (store_left result)).counts (Some id.n)) }
+        ensures looks { Looks S.tells_files S.tells_images id.n (S.view store) (S.view (store_left result)) (S.leaves store) (S.leaves (store_left result)) (S.past store) (S.past (store_left result)) }
     {
         match store.len(id) {
             Ok(end) => {
@@ -70,7 +68,12 @@ impl<S: Store> PlainSpace<S> {
 
     /// Gives the store back. It makes no call and takes no memory.
     pub fn into_store(self) -> S
-        ensures { result ≡ store_of self }
+        ensures store { result ≡ store_of self }
+        ensures view { ⟦<PlainSpace<S> as Space>⟧.view self ≡ view_of S.tells_files (S.view result) (id_of self) (end_of self) (prepared_of self) }
+        ensures array { IsTrue S.tells_files → (⟦<PlainSpace<S> as Space>⟧.view self).array ≡ array_of (file_in (S.view result) (id_of self)) }
+        ensures faults { ⟦<PlainSpace<S> as Space>⟧.faults self ≡ (S.view result).counts (Some (id_of self)) }
+        ensures moment { ⟦<PlainSpace<S> as Space>⟧.moment self ≡ (S.view result).moment }
+        ensures rests { ⟦<PlainSpace<S> as Space>⟧.Rests self → RestsIn S.tells_files S.tells_images (S.view result) (S.leaves result) (id_of self) }
     {
         let PlainSpace {
             store,
@@ -85,11 +88,12 @@ impl<S: Store> PlainSpace<S> {
 impl<S: Store> Kept for PlainSpace<S> {
     ghost use Rattle.plain_space.specs.Alike.{IsAlike, alike_itself, alike_on};
 
-    ghost Alike = { λ a b. IsAlike S.tells_files (S.view a.store) (S.view b.store) a b };
+    ghost Alike = { λ a b. IsAlike S.tells_files S.tells_images (S.view a.store) (S.view b.store) (S.leaves a.store) (S.leaves b.store) (S.past a.store) (S.past b.store) a b };
 
-    ghost reflexive = { λ a. alike_itself S.tells_files (S.view a.store) a };
+    ghost reflexive = { λ a. alike_itself S.tells_files S.tells_images (S.view a.store) (S.leaves a.store) (S.past a.store) a };
 
-    ghost transitive = { λ a b c first second. alike_on S.tells_files (S.view a.store) (S.view b.store) (S.view c.store) a b c first second };
+    ghost transitive = { λ a b c first second. alike_on S.tells_files S.tells_images (S.view a.store) (S.view b.store) (S.view c.store)
+        (S.leaves a.store) (S.leaves b.store) (S.leaves c.store) (S.past a.store) (S.past b.store) (S.past c.store) a b c first second };
 }
 
 impl<S: Store> Space for PlainSpace<S> {
@@ -186,7 +190,7 @@ impl<S: Store> Space for PlainSpace<S> {
         Ok(CommitAnswer::NoOnion)
     }
 
-    ghost alike = { λ a b h. view_alike S.tells_files (S.view a.store) (S.view b.store) a b h };
+    ghost alike = { λ a b h. view_alike S.tells_files S.tells_images (S.view a.store) (S.view b.store) (S.leaves a.store) (S.leaves b.store) (S.past a.store) (S.past b.store) a b h };
 
     ghost sound = { λ a. are_regions S.tells_files (S.view a.store) a.id.n a.end a.prepared.items a.short };
 }
