@@ -1,5 +1,5 @@
 -- The bytes of a file by address: read, written, and with another length.
-use Rattle.std.proofs.Common.{ℕ, ◌≡◌, ◌<◌, ◌≤◌, ◌+◌, ◌-◌, ◌⊎◌, inl, inr, List, [], ◌++◌, length, take, drop, replicate, get_or, min, max, refl, sym, ◌∙◌, ap, subst, arith, append_assoc}
+use Rattle.std.proofs.Common.{ℕ, ◌≡◌, ◌<◌, ◌≤◌, ◌+◌, ◌-◌, ◌⊎◌, inl, inr, List, [], ◌++◌, length, take, drop, replicate, get_or, min, refl, sym, ◌∙◌, ap, subst, arith, append_assoc}
 use Rattle.std.proofs.lemmas.Grind.{common_steps}
 use Rattle.std.proofs.lemmas.Bool.{cases_lt}
 use Rattle.std.proofs.lemmas.Bool.Decides.{nat_tests}
@@ -36,10 +36,10 @@ read_all file out at n most size few same =
     let front : length (take n out) ≡ n = omega (arith, length-take n out) in
     let whole : length (take n out ++ replicate (most - n) 0) ≡ most = omega (arith, length-append (take n out) (replicate (most - n) 0), length-replicate {A = ℕ} (most - n) 0) in
     ext_get_or 0 (take n out ++ replicate (most - n) 0) (bytes_of (array_of file) at most)
-        (whole ∙ sym (length-map-range_with_len (array_of file) at most))
-        (λ k lt. let below : k < most = omega arith in
-            read_behind file out at n most size few same k below
-            ∙ sym (get_or-map-range_with_len (array_of file) at most k (at + k) 0 below refl))
+    (whole ∙ sym (length-map-range_with_len (array_of file) at most))
+    (λ k lt. let below : k < most = omega arith in
+    read_behind file out at n most size few same k below
+    ∙ sym (get_or-map-range_with_len (array_of file) at most k (at + k) 0 below refl))
 
 -- the rest of what was read into is filled with zeros
 pub zeros_behind : (out zeros : List ℕ) (n rest : ℕ) → n ≤ length out → rest ≡ length out - n → zeros ≡ replicate rest 0

@@ -1,5 +1,5 @@
 -- What a space over a file tells after a write, and with another length.
-use Rattle.std.proofs.Common.{ℕ, ◌≡◌, ◌<◌, ◌≤◌, ◌+◌, ◌-◌, ◌⊎◌, Bool, true, false, IsTrue, List, length, replicate, refl, sym, ◌∙◌, ap, subst, arith}
+use Rattle.std.proofs.Common.{ℕ, ◌≡◌, ◌≤◌, ◌-◌, Bool, IsTrue, List, length, replicate, refl, sym, ◌∙◌, ap, arith}
 use Rattle.h5_base.specs.declared.extent.Extent.{Extent}
 use Rattle.h5_base.specs.declared.extent.MemClass.{MemClass}
 use Rattle.outside.specs.Array.{array_of, over, SameOutside}

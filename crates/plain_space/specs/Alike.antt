@@ -1,14 +1,13 @@
 -- When one space over a file came from another by calls that change nothing, and that alike spaces tell the same.
 -- Cited by `PlainSpace`.
-use Rattle.std.specs.Prelude.{◌≡◌, ◌≢◌, ◌⊎◌, ℕ, ◌^◌, ◌≤◌, Bool, true, false, IsTrue, List, length, Option, Some}
+use Rattle.std.specs.Prelude.{◌≡◌, ℕ, ◌^◌, ◌≤◌, Bool, true, false, IsTrue, List, Some}
 use Rattle.std.proofs.Common.{refl, sym, ◌∙◌, inl, ap, arith}
 use Rattle.h5_base.specs.declared.extent.Extent.{Extent}
-use Rattle.h5_base.specs.declared.extent.MemClass.{MemClass}
 use Rattle.outside.specs.Files.{Files, Snapshot}
-use Rattle.outside.specs.Store.{View, Goes, GoesOver}
+use Rattle.outside.specs.Store.{View, Goes}
 use Rattle.outside.specs.Space.{AreRegions}
 use Rattle.outside.proofs.Goes.{goes_nowhere, goes_on, over_on}
-use Rattle.plain_space.specs.File.{array_in, file_in, view_of, whole, Looks}
+use Rattle.plain_space.specs.File.{array_in, file_in, view_of, Looks}
 use Rattle.plain_space.specs.Plain.{id_of, end_of, prepared_of}
 use Rattle.plain_space.specs.declared.space.PlainSpace.{PlainSpace}
 

@@ -9,12 +9,7 @@ use outside::{Failed, FileId, Store};
 const LIMIT: u64 = 1 << 49;
 
 // Asks for the bytes from `at` on, as far as they lie below 2^49, and answers how many there were.
-fn read_below<S: Store>(
-    store: &mut S,
-    id: FileId,
-    at: u64,
-    out: &mut [u8],
-) -> Result<usize, Failed>
+fn read_below<S: Store>(store: &mut S, id: FileId, at: u64, out: &mut [u8]) -> Result<usize, Failed>
     requires given { 0 < length ((S.view store.old).names id.n) }
     ensures count { IfOk result (λ n. n ≤ length out.old) }
     ensures bytes { IsTrue S.tells_files → length (file_in (S.view store.old) id.n) ≤ 2 ^ 49 → IfOk result (λ n.
@@ -30,12 +25,7 @@ fn read_below<S: Store>(
 }
 
 /// Reads the bytes of a file from `at` on, with zeros behind its end, in at most one call.
-pub fn read_part<S: Store>(
-    store: &mut S,
-    id: FileId,
-    at: u64,
-    out: &mut [u8],
-) -> Result<(), Failed>
+pub fn read_part<S: Store>(store: &mut S, id: FileId, at: u64, out: &mut [u8]) -> Result<(), Failed>
     requires given { 0 < length ((S.view store.old).names id.n) }
     ensures bytes { IsTrue S.tells_files → length (file_in (S.view store.old) id.n) ≤ 2 ^ 49
         → OnOk result (out.new ≡ bytes_of (array_of (file_in (S.view store.old) id.n)) at (length out.old)) }

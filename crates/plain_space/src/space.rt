@@ -29,11 +29,7 @@ impl<S: Store> PlainSpace<S> {
 
     /// The file with this id, at its length, for which the store is asked in one call. The store is handed back where the
     /// call fails, and where the file has more than 2^48 bytes. It takes no memory.
-    pub fn open(
-        alloc: Global,
-        mut store: S,
-        id: FileId,
-    ) -> Result<PlainSpace<S>, OpenRefused<S>>
+    pub fn open(alloc: Global, mut store: S, id: FileId) -> Result<PlainSpace<S>, OpenRefused<S>>
         requires { 0 < length ((S.view store).names id.n) }
         ensures id { IfOk result (λ space. id_of space ≡ id.n) }
         ensures end { IsTrue S.tells_files → IfOk result (λ space. end_of space ≡ length (file_in (S.view store) id.n)) }

@@ -1,4 +1,4 @@
-use Rattle.std.proofs.Common.{ℕ, ◌≡◌, ◌≤◌, ◌-◌, ◌++◌, List, length, replicate, take, drop, arith, ◌∙◌, sym, ap}
+use Rattle.std.proofs.Common.{ℕ, ◌≡◌, ◌≤◌, ◌-◌, ◌++◌, List, length, replicate, take, drop, arith, ◌∙◌, ap}
 use Rattle.std.proofs.lemmas.List.{length-take, length-drop}
 use Rattle.plain_space.specs.File.{file_in}
 use Rattle.plain_space.proofs.Bytes.{read_all, zeros_behind}
