@@ -1,7 +1,7 @@
 // Writes and raises of a space without revisions, each with its preparation.
 ghost use Rattle.std.specs.Prelude.{◌≡◌, ◌+◌, ◌-◌, ◌^◌, ◌<◌, ◌≤◌, [], ◌∷◌, None, IsTrue, OnOk, length};
 ghost use Rattle.h5_base.specs.declared.extent.MemClass.{MemClass};
-ghost use Rattle.outside.specs.Space.{LiesIn, SameKind};
+ghost use Rattle.outside.specs.Space.{AreCovered, LiesIn, SameKind};
 
 use h5_base::{Extent, MemClass};
 use outside::Space;
@@ -27,7 +27,8 @@ fn prepare<V: Space>(alloc: Global, space: &mut V, at: u64, len: u64) -> Result<
     requires stands { V.Stands space.old }
     requires fits { at + len < 2 ^ 64 }
     ensures stands { V.Stands space.new }
-    ensures prepared { OnOk result (V.view space.new ≡ record (V.view space.old) { prepared = record { start = at; len = len } ∷ [] }) }
+    ensures covered { OnOk result (AreCovered (V.view space.new).prepared at len) }
+    ensures others { OnOk result (V.view space.new ≡ record (V.view space.old) { prepared = (V.view space.new).prepared }) }
 {
     let mut ranges = Vec::new(alloc);
     ranges.push(Extent { start: at, len })?;
