@@ -8,7 +8,7 @@ use Rattle.std.proofs.lemmas.List.FromFn.{get_or-map-range_with_len, length-map-
 use Rattle.std.proofs.Math.Path.{fun_ext}
 use borrow.Rule.Slice.PartMut.{put_mid}
 use Rattle.outside.specs.Array.{Array, array_of, bytes_of, over, SameOutside}
-use Rattle.outside.specs.Files.{written, resized, WrittenInPart, ResizedInPart}
+use Rattle.outside.specs.Files.{written, resized}
 
 -- ---- reading
 
@@ -126,13 +126,6 @@ written_out file at bytes k h =
 pub array-written : (file : List ℕ) (at : ℕ) (bytes : List ℕ) → array_of (written at bytes file) ≡ over (array_of file) at bytes
 array-written file at bytes = over-unique (array_of file) (array_of (written at bytes file)) at bytes (written_in file at bytes) (written_out file at bytes)
 
-pub length-written : (file : List ℕ) (at : ℕ) (bytes : List ℕ) → at + length bytes ≤ length file → length (written at bytes file) ≡ length file
-length-written file at bytes fits =
-    omega (arith, ap length (written-parts file at bytes), length-resized at file, length-append (resized at file) (bytes ++ drop (at + length bytes) file), length-append bytes (drop (at + length bytes) file), length-drop (at + length bytes) file)
-
-pub array-written_in_part : (old new : List ℕ) (at n : ℕ) → WrittenInPart at n old new → SameOutside at n (array_of old) (array_of new)
-array-written_in_part old new at n part address outside = elim outside [ inl low ↦ part.below address low | inr high ↦ part.above address high ]
-
 -- ---- with another length
 
 longer_in : (file : List ℕ) (n : ℕ) (k : ℕ) → k < length (replicate {A = ℕ} (n - length file) 0) → get_or (resized n file) (length file + k) 0 ≡ get_or (replicate (n - length file) 0) k 0
@@ -148,13 +141,3 @@ longer_out file n longer k h = elim (cases_lt k n) [
 
 pub array-longer : (file : List ℕ) (n : ℕ) → length file ≤ n → array_of (resized n file) ≡ over (array_of file) (length file) (replicate (n - length file) 0)
 array-longer file n longer = over-unique (array_of file) (array_of (resized n file)) (length file) (replicate (n - length file) 0) (longer_in file n) (longer_out file n longer)
-
-pub length-longer : (file : List ℕ) (n : ℕ) → length (resized n file) ≡ n
-length-longer file n = length-resized n file
-
--- a file that was to become longer reads the same at each address
-pub array-longer_in_part : (old new : List ℕ) (n : ℕ) → length old ≤ n → ResizedInPart n old new → (address : ℕ) → array_of new address ≡ array_of old address
-array-longer_in_part old new n longer part address = elim (cases_lt address (length new)) [
-  | inl low ↦ part.each address low
-  | inr high ↦ get_or_past new address 0 high ∙ sym (get_or_past old address 0 (omega (arith, part.no_shorter)))
-]

@@ -2,12 +2,12 @@
 use Rattle.std.proofs.Common.{ℕ, ◌≡◌, ◌≤◌, ◌-◌, Bool, IsTrue, List, length, replicate, refl, sym, ◌∙◌, ap, arith}
 use Rattle.h5_base.specs.declared.extent.Extent.{Extent}
 use Rattle.h5_base.specs.declared.extent.MemClass.{MemClass}
-use Rattle.outside.specs.Array.{array_of, over, SameOutside}
-use Rattle.outside.specs.Files.{written, resized, WrittenInPart, ResizedInPart}
+use Rattle.outside.specs.Array.{array_of, over}
+use Rattle.outside.specs.Files.{written, resized}
 use Rattle.outside.specs.Space.{Wrote, Raised}
 use Rattle.outside.specs.Store.{View}
 use Rattle.plain_space.specs.File.{array_in, file_in, view_of}
-use Rattle.plain_space.proofs.Bytes.{array-written, array-longer, array-written_in_part, array-longer_in_part}
+use Rattle.plain_space.proofs.Bytes.{array-written, array-longer}
 
 array_told : (tells : Bool) (file : List ℕ) → IsTrue tells → array_in tells file ≡ array_of file
 array_told tells file told = ap (λ (t : Bool). array_in t file) told
@@ -41,18 +41,3 @@ raised_to tells v w id old end prepared class told names file size up = record {
   prepared = refl;
   committed = refl;
 }
-
-pub wrote_in_part : (tells : Bool) (v w : View) (id end at n : ℕ) (prepared : List Extent) → IsTrue tells → w.names ≡ v.names
-    → WrittenInPart at n (v.files (v.names id)) (w.files (v.names id)) → SameOutside at n (view_of tells v id end prepared).array (view_of tells w id end prepared).array
-wrote_in_part tells v w id end at n prepared told names part address outside =
-    ap (λ (a : ℕ → ℕ). a address) (array_told tells (file_in w id) told ∙ ap array_of (file_after v w id (w.files (v.names id)) names refl))
-    ∙ array-written_in_part (file_in v id) (w.files (v.names id)) at n part address outside
-    ∙ ap (λ (a : ℕ → ℕ). a address) (sym (array_told tells (file_in v id) told))
-
-pub raised_in_part : (tells : Bool) (v w : View) (id old end : ℕ) (prepared : List Extent) → IsTrue tells → w.names ≡ v.names
-    → ResizedInPart end (v.files (v.names id)) (w.files (v.names id)) → old ≡ length (file_in v id) → old ≤ end
-    → SameOutside old (end - old) (view_of tells v id old prepared).array (view_of tells w id old prepared).array
-raised_in_part tells v w id old end prepared told names part size up address outside =
-    ap (λ (a : ℕ → ℕ). a address) (array_told tells (file_in w id) told ∙ ap array_of (file_after v w id (w.files (v.names id)) names refl))
-    ∙ array-longer_in_part (file_in v id) (w.files (v.names id)) end (omega arith) part address
-    ∙ ap (λ (a : ℕ → ℕ). a address) (sym (array_told tells (file_in v id) told))

@@ -1,5 +1,5 @@
 -- A range is covered where it is the one that is given.
-use Rattle.std.proofs.Common.{ℕ, ◌≡◌, ◌<◌, ◌≤◌, ◌+◌, List, [], ◌∷◌, refl, sym, ◌∙◌, subst, arith}
+use Rattle.std.proofs.Common.{ℕ, ◌≡◌, List, [], ◌∷◌, refl, sym, ◌∙◌, subst, arith}
 use Rattle.h5_base.specs.declared.extent.Extent.{Extent}
 use Rattle.outside.specs.Space.{AreCovered}
 

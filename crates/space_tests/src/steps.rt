@@ -59,12 +59,7 @@ pub fn write<V: Space>(
 }
 
 /// Moves the end of a class up.
-pub fn raise<V: Space>(
-    alloc: Global,
-    space: &mut V,
-    class: MemClass,
-    end: u64,
-) -> Result<(), Fail>
+pub fn raise<V: Space>(alloc: Global, space: &mut V, class: MemClass, end: u64) -> Result<(), Fail>
     requires stands { V.Stands space.old }
     requires writable { IsTrue (V.view space.old).writable }
     requires plain { (V.view space.old).committed ≡ None }
