@@ -1,0 +1,9 @@
+//! One file of a store as a space of addresses.
+#![tactic(auto)]
+
+mod opening;
+mod part;
+mod space;
+
+pub use opening::{OpenRefused, OpenStop};
+pub use space::PlainSpace;
