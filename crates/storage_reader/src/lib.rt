@@ -9,3 +9,8 @@ mod nodes;
 mod storage;
 
 pub use storage::adopt_storage;
+
+#[cfg(test)]
+mod memory;
+#[cfg(test)]
+mod tests;
