@@ -14,7 +14,7 @@ use Rattle.block_reader.specs.declared.stop.TreeStop.{TreeStop}
 use Rattle.block_reader.specs.Stops.{refusal_of}
 use Rattle.block_reader.proofs.Stopped.{if_some}
 use Rattle.group_reader.specs.declared.link.FoundLink.{FoundLink}
-use Rattle.group_reader.specs.Links.{links_of, Adds}
+use Rattle.group_reader.specs.Links.{links_of, Adds, AddsOrdered}
 use Rattle.group_reader.specs.Reading.{FitKeys, Takes, Refuses}
 use Rattle.group_reader.proofs.ChildLemmas.{AreFirst, TakesFirst, first_none, first_more, first_child_refused, first_key_refused, first_all}
 
@@ -50,6 +50,9 @@ add_none view old s heap node Child Refused keys children before = record {
   ordered = tt;
   part = λ met keeps. ([], first_none s heap node Child Refused keys children met, subst (λ (l : List Block). Keeps view old l) (sym (append-nil met)) keeps);
 }
+
+pub order_none : (before : List FoundLink) → AddsOrdered before before
+order_none before = record { added = []; behind = sym (append-nil (links_of before)); ordered = tt; part = tt }
 
 pub add_all : {V : Type 0} (view : V → SpaceView) (old new : Blocks V) (s : List ℕ) (heap node : ℕ) (Child : Under) (Refused : Bounds → RefusedUnder) (keys children ks : List ℕ) (i : ℕ) (before now : List FoundLink) → length children ≤ i
     → Adds before now (λ done. TakesFirst view old new s heap node Child Refused keys children ks (drop i children) done) → Adds before now (λ fs. Takes view old new (AreChildren s Child keys children fs))
@@ -91,6 +94,14 @@ add_child view old mid new s heap node Child Refused keys children ks cs k l ks'
         subst (λ (z : List ℕ). AreFirst s heap node (Child b) (Refused b) keys children z cs' (a.added ++ r.added) met (x.0 ++ y.0)) on next,
         subst (λ (z : List Block). Keeps view new z) (append_assoc met x.0 y.0) y.2,
       );
+}
+
+pub order_child : (s : List ℕ) (k l : ℕ) (before links now : List FoundLink) → (a : AddsOrdered before links) → (r : AddsOrdered links now) → FitKeys s k l a.added r.added → AddsOrdered before now
+order_child s k l before links now a r fit = record {
+  added = a.added ++ r.added;
+  behind = r.behind ∙ ap (λ (x : List Found). x ++ r.added) a.behind ∙ append_assoc (links_of before) a.added r.added;
+  ordered = fit.ordered;
+  part = tt;
 }
 
 pub child_stops : {V : Type 0} (view : V → SpaceView) (old mid : Blocks V) (s : List ℕ) (heap node : ℕ) (Child : UnderIn) (Refused : RefusedIn) (keys children ks cs : List ℕ) (k l : ℕ) (ks' : List ℕ) (c : ℕ) (cs' : List ℕ)

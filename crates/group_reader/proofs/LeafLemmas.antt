@@ -8,20 +8,25 @@ use Rattle.node_codec.specs.Snod.{SpellsSnod, snod_len}
 use Rattle.node_codec.specs.declared.snod.SnodEntry.{SnodEntry}
 use Rattle.block_space.specs.Blocks.{Keeps, space_of}
 use Rattle.block_space.specs.declared.blocks.Blocks.{Blocks}
-use Rattle.file_model.specs.Groups.{Ks, AreLinks, IsLeaf}
+use Rattle.file_model.specs.Groups.{Ks, Found, AreLinks, IsLeaf}
 use Rattle.file_model.specs.Refusals.{Refusal, Malformed, IsBlockRefused}
 use Rattle.file_model.specs.RefusedGroups.{IsLeafRefused, LeafBlock, NoLeaf, NoName, NoValue, NamesDisordered}
 use Rattle.block_reader.proofs.Stopped.{if_some, if_err}
 use Rattle.block_reader.specs.Stops.{refusal_of}
 use Rattle.block_reader.specs.declared.stop.TreeStop.{TreeStop}
 use Rattle.group_reader.specs.declared.link.FoundLink.{FoundLink}
-use Rattle.group_reader.specs.Links.{Adds}
+use Rattle.group_reader.specs.Links.{Adds, AddsOrdered}
 use Rattle.group_reader.specs.Entries.{AreEntriesRefused, OneEntry, Disordered}
 use Rattle.group_reader.specs.Reading.{Takes, Refuses}
 
 pub on_ok_then : {T E : Type 0} (r : Result T E) (P Q : Type 0) → (P → Q) → OnOk r P → OnOk r Q
 on_ok_then (Ok x) P Q f h = f h
 on_ok_then (Err e) P Q f h = tt
+
+-- whatever the links are links of, they are in order
+pub ordered_ok : {T E : Type 0} (r : Result T E) (before now : List FoundLink) (Part : List Found → Type 0) → OnOk r (Adds before now Part) → OnOk r (AddsOrdered before now)
+ordered_ok r before now Part h =
+    on_ok_then r (Adds before now Part) (AddsOrdered before now) (λ a. record { added = a.added; behind = a.behind; ordered = a.ordered; part = tt }) h
 
 pub leaf_block : (b : Array) (e : Bounds) (ks : Ks) (s : List ℕ) (heap : ℕ) (met : List Block) (at len : ℕ) (o : Option Refusal) → len ≡ snod_len ks.leaf → IfSome o (IsBlockRefused e met (record { start = at; len = len }) kind.Snod)
     → IfSome o (IsLeafRefused b e ks s heap met at)

@@ -18,7 +18,7 @@ use Rattle.block_reader.specs.declared.stop.TreeStop.{TreeStop}
 use Rattle.block_reader.specs.Stops.{refusal_of}
 use Rattle.block_reader.proofs.Stopped.{if_some}
 use Rattle.group_reader.specs.declared.link.FoundLink.{FoundLink}
-use Rattle.group_reader.specs.Links.{links_of, Adds}
+use Rattle.group_reader.specs.Links.{links_of, Adds, AddsOrdered}
 use Rattle.group_reader.specs.Reading.{Takes, Refuses, IsBelow, IsBelowRefused, IsNodeAt, AreIndexed}
 use Rattle.group_reader.proofs.IndexLemmas.{IsRead, TakesNode, index_found, index_refused}
 
@@ -48,6 +48,11 @@ tree_found view old mid new ks s at node keys children before now same is taken 
       },
       x.2,
     )
+
+pub tree_ordered : (before now : List FoundLink) → before ≡ [] → AddsOrdered before now → AreOrdered (names_of (links_of now))
+tree_ordered before now none a =
+    let all : a.added ≡ links_of now = sym (a.behind ∙ ap (λ (l : List FoundLink). links_of l ++ a.added) none) in
+    subst (λ (fs : List Found). AreOrdered (names_of fs)) all a.ordered
 
 abbrev stopped : TreeStop → Result (Unit {0}) TreeStop
 stopped stop = Err stop

@@ -29,3 +29,7 @@ pub record Adds (before now : List FoundLink) (Part : List Found → Type 0) : T
   pub behind : links_of now ≡ links_of before ++ added
   pub ordered : AreOrdered (names_of added)
   pub part : Part added
+
+-- Links were pushed behind the others, in the order of their names.
+abbrev pub AddsOrdered : List FoundLink → List FoundLink → Type 0
+AddsOrdered before now = Adds before now (λ fs. Unit {0})

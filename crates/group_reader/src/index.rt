@@ -4,7 +4,7 @@ ghost use Rattle.outside.specs.Causes.{Rose};
 ghost use Rattle.block_space.specs.Blocks.{Keeps, space_of};
 ghost use Rattle.file_model.specs.Groups.{AreChildren, IsIndex};
 ghost use Rattle.file_model.specs.RefusedGroups.{AreChildrenRefused, IsIndexRefused};
-ghost use Rattle.group_reader.specs.Links.{Adds};
+ghost use Rattle.group_reader.specs.Links.{Adds, AddsOrdered};
 ghost use Rattle.group_reader.specs.Reading.{array_of, ks_of, IsBelow, IsBelowRefused, Takes, Refuses};
 
 use crate::keys::check_keys;
@@ -35,6 +35,7 @@ fn read_index<V: Space>(
     ensures refused { IsTrue V.tells → (chunk : ℕ) → IfErr result (Refuses V.view blocks.old (λ e met.
         IsIndexRefused (array_of V.view blocks.old) e (ks_of table.now.leaf_k table.now.internal_k chunk) table.now.segment.now table.now.heap_at level met at)) }
     ensures grows { OnOk result (length links.old.items ≤ length links.new.items) }
+    ensures ordered { OnOk result (AddsOrdered links.old.items links.new.items) }
     ensures alike { V.Alike (space_of blocks.old) (space_of blocks.new) }
     ensures stands { (IsErrOf result TreeStop.Failed → ⊥) → V.Stands (space_of blocks.new) }
     ensures listed { OnOk result ((met : List Block) × Keeps V.view blocks.new met) }
@@ -72,6 +73,7 @@ fn read_child<V: Space>(
     ensures refused { IsTrue V.tells → (chunk : ℕ) → IfErr result (Refuses V.view blocks.old (λ e met.
         IsBelowRefused (array_of V.view blocks.old) e (ks_of table.now.leaf_k table.now.internal_k chunk) table.now.segment.now table.now.heap_at level met at)) }
     ensures grows { OnOk result (length links.old.items ≤ length links.new.items) }
+    ensures ordered { OnOk result (AddsOrdered links.old.items links.new.items) }
     ensures alike { V.Alike (space_of blocks.old) (space_of blocks.new) }
     ensures stands { (IsErrOf result TreeStop.Failed → ⊥) → V.Stands (space_of blocks.new) }
     ensures listed { OnOk result ((met : List Block) × Keeps V.view blocks.new met) }
@@ -108,6 +110,7 @@ pub(crate) fn read_children<V: Space>(
         (IsBelowRefused (array_of V.view blocks.old) e (ks_of table.now.leaf_k table.now.internal_k chunk) table.now.segment.now table.now.heap_at level)
         keys.now children.now [] met)) }
     ensures grows { OnOk result (length links.old.items ≤ length links.new.items) }
+    ensures ordered { OnOk result (AddsOrdered links.old.items links.new.items) }
     ensures alike { V.Alike (space_of blocks.old) (space_of blocks.new) }
     ensures stands { (IsErrOf result TreeStop.Failed → ⊥) → V.Stands (space_of blocks.new) }
     ensures listed { OnOk result ((met : List Block) × Keeps V.view blocks.new met) }

@@ -33,6 +33,7 @@ fn read_tree<V: Space>(
     ensures refused { IsTrue V.tells → (chunk : ℕ) → IfErr result (Refuses V.view blocks.old (λ e met.
         IsIndexRefused (array_of V.view blocks.old) e (ks_of table.now.leaf_k table.now.internal_k chunk) table.now.segment.now table.now.heap_at
         (root_level (array_of V.view blocks.old) (ks_of table.now.leaf_k table.now.internal_k chunk) tree_at) met tree_at)) }
+    ensures ordered { IfOk result (λ links. AreOrdered (names_of (links_of links.items))) }
     ensures alike { V.Alike (space_of blocks.old) (space_of blocks.new) }
     ensures stands { (IsErrOf result TreeStop.Failed → ⊥) → V.Stands (space_of blocks.new) }
     ensures listed { OnOk result ((met : List Block) × Keeps V.view blocks.new met) }
@@ -76,6 +77,7 @@ pub fn read_links<V: Space>(
     ensures small { IsTrue V.tells → OnOk result (IsSmallHeap (array_of V.view blocks.old) heap_at) }
     ensures refused { IsTrue V.tells → IfErr result (λ stop. (chunk : ℕ) → Refuses V.view blocks.old (λ e met.
         IsTableRefused (array_of V.view blocks.old) e (ks_of leaf_k internal_k chunk) met tree_at heap_at) stop) }
+    ensures ordered { IfOk result (λ links. AreOrdered (names_of (links_of links.items))) }
     ensures alike { V.Alike (space_of blocks.old) (space_of blocks.new) }
     ensures stands { (IsErrOf result TreeStop.Failed → ⊥) → V.Stands (space_of blocks.new) }
     ensures listed { OnOk result ((met : List Block) × Keeps V.view blocks.new met) }

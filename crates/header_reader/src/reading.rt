@@ -6,7 +6,7 @@ ghost use Rattle.block_space.specs.Blocks.{Keeps, space_of};
 ghost use Rattle.block_reader.specs.Stops.{refusal_of};
 ghost use Rattle.file_model.specs.Headers.{Part, header_blocks};
 ghost use Rattle.file_model.specs.Refusals.{IsMessageRefused, IsHeaderRefused};
-ghost use Rattle.header_reader.specs.Found.{IsFound};
+ghost use Rattle.header_reader.specs.Found.{IsFound, IsSoundHeader};
 ghost use Rattle.header_reader.specs.Walks.{HasPrefix, IsGathered};
 
 use crate::first::{first_len, is_later, no_prefix};
@@ -82,6 +82,7 @@ fn read_known<V: Space>(
     ensures refused { IsTrue V.tells → HasPrefix (V.view (space_of blocks.old)).array at prefix
         → IfErr result (λ stop. (met : List Block) (own : Option (List ℕ)) → Keeps V.view blocks.old met
         → IfSome (refusal_of stop) (IsHeaderRefused (V.view (space_of blocks.old)).array (bounds_of (V.view (space_of blocks.old)) own) met at)) }
+    ensures sound { IfOk result IsSoundHeader }
     ensures alike { V.Alike (space_of blocks.old) (space_of blocks.new) }
     ensures stands { (IsErrOf result TreeStop.Failed → ⊥) → V.Stands (space_of blocks.new) }
     ensures listed { OnOk result ((met : List Block) × Keeps V.view blocks.new met) }
@@ -119,6 +120,7 @@ pub fn read_header<V: Space>(
         → (bs : List Block) × IsFound (V.view (space_of blocks.old)).array at x bs × Keeps V.view blocks.new (met ++ bs)) }
     ensures refused { IsTrue V.tells → IfErr result (λ stop. (met : List Block) (own : Option (List ℕ)) → Keeps V.view blocks.old met
         → IfSome (refusal_of stop) (IsHeaderRefused (V.view (space_of blocks.old)).array (bounds_of (V.view (space_of blocks.old)) own) met at)) }
+    ensures sound { IfOk result IsSoundHeader }
     ensures alike { V.Alike (space_of blocks.old) (space_of blocks.new) }
     ensures stands { (IsErrOf result TreeStop.Failed → ⊥) → V.Stands (space_of blocks.new) }
     ensures listed { OnOk result ((met : List Block) × Keeps V.view blocks.new met) }

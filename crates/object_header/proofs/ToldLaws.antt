@@ -1,17 +1,20 @@
--- First messages tell at most one dataset.
-use Rattle.std.proofs.Common.{◌≡◌, Option, Some, None, sym, subst, ◌∙◌}
+-- First messages tell at most one dataset, whose parts fit one another.
+use Rattle.std.proofs.Common.{◌≡◌, ℕ, List, Option, Some, None, sym, subst, ◌∙◌, inl, inr}
 use Rattle.dtype.specs.Shapes.{SpellsShape}
 use Rattle.dtype.specs.Types.{SpellsType, size_of}
 use Rattle.dtype.specs.declared.types.ElemType.{ElemType}
 use Rattle.dtype.specs.declared.types.Shape.{Shape}
 use Rattle.dtype.proofs.TypeLaws.{type_unique}
 use Rattle.header_codec.specs.Layouts.{SpellsLayout}
+use Rattle.header_codec.specs.Written.{IsLayout}
 use Rattle.header_codec.specs.declared.types.Fill.{Fill}
 use Rattle.header_codec.specs.declared.types.Layout.{Layout}
 use Rattle.file_model.specs.Headers.{Met}
 use Rattle.file_model.proofs.UniqueHeaders.{layout_same}
 use Rattle.object_header.specs.Firsts.{Firsts}
-use Rattle.object_header.specs.Told.{Tells, TellsFill, Fit, AreParts}
+use Rattle.object_header.specs.Told.{Tells, TellsFill, Fit, AreParts, IsSound, TellsData}
+use Rattle.object_header.specs.declared.types.ObjectKind.{ObjectKind}
+use Rattle.object_header.specs.declared.types.ObjectKind.TheVariants as kind
 
 space_same : (o : Option Met) (s t : Shape) → Tells SpellsShape o s → Tells SpellsShape o t → s ≡ t
 space_same None s t h k = absurd h
@@ -42,3 +45,16 @@ no_fit v kept shape s elem t layout l f see space type stored unfit parts =
     let b : t ≡ elem = elem_same v.elem t elem here.type type in
     let d : l ≡ layout = stored_same v.layout l layout here.stored stored in
     unfit (subst (λ (x : Layout). Fit shape elem x) d (subst (λ (x : ElemType). Fit shape x l) b (subst (λ (x : Shape). Fit x t l) a here.fit)))
+
+spelled_layout : (l : Layout) (b : List ℕ) → SpellsLayout l b → IsLayout l
+spelled_layout l b (inl h) = subst IsLayout (sym h.1) tt
+spelled_layout l b (inr h) = subst IsLayout (sym h.1) h.0.chunk
+
+told_layout : (o : Option Met) (l : Layout) → Tells SpellsLayout o l → IsLayout l
+told_layout None l h = absurd h
+told_layout (Some m) l h = spelled_layout l m.body h.1
+
+pub sound_told : (kept : Firsts) (k : ObjectKind) → TellsData kept k → IsSound k
+sound_told kept (kind.Group tree heap) h = absurd h
+sound_told kept (kind.Dataset shape elem fill layout filtered) h = (h.0.fit, told_layout kept.layout layout h.0.stored)
+sound_told kept kind.Other h = absurd h

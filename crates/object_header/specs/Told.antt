@@ -8,6 +8,7 @@ use Rattle.dtype.specs.declared.types.ElemType.{ElemType}
 use Rattle.dtype.specs.declared.types.Shape.{Shape}
 use Rattle.header_codec.specs.Fills.{SpellsFill, IsOfSize}
 use Rattle.header_codec.specs.Layouts.{SpellsLayout, IsOfShape}
+use Rattle.header_codec.specs.Written.{IsLayout}
 use Rattle.header_codec.specs.declared.types.Fill.{Fill}
 use Rattle.header_codec.specs.declared.types.Fill.TheVariants as fill
 use Rattle.header_codec.specs.declared.types.Layout.{Layout}
@@ -31,6 +32,12 @@ TellsFill old_fill size (Some m) f = (is_shared m ≡ false) × SpellsFill f m.b
 pub record Fit (shape : Shape) (elem : ElemType) (layout : Layout) : Type 0 where
   pub fits : FitsFile shape.dims (size_of elem)
   pub stored : IsOfShape (length shape.dims) (size_of elem) layout
+
+-- A dataset's parts fit one another, and its layout is one that a header can tell.
+abbrev pub IsSound : ObjectKind → Type 0
+IsSound (kind.Group tree heap) = Unit {0}
+IsSound (kind.Dataset shape elem fill layout filtered) = Fit shape elem layout × IsLayout layout
+IsSound kind.Other = Unit {0}
 
 -- These are the parts of a dataset.
 pub record AreParts (kept : Firsts) (shape : Shape) (elem : ElemType) (fill : Fill) (layout : Layout) : Type 0 where

@@ -6,7 +6,7 @@ ghost use Rattle.header_codec.specs.declared.types.Fill.{Fill};
 ghost use Rattle.header_codec.specs.declared.types.Layout.{Layout};
 ghost use Rattle.file_model.specs.Headers.{AreWhole, Met};
 ghost use Rattle.object_header.specs.Gathered.{Gathers, IsKind};
-ghost use Rattle.object_header.specs.Told.{AreParts, Fit, TellsData};
+ghost use Rattle.object_header.specs.Told.{AreParts, Fit, IsSound, TellsData};
 
 use crate::ObjectKind;
 use crate::kept::{Kept, keep, read_elem, read_filling, read_space, read_storage};
@@ -106,7 +106,9 @@ impl Messages {
     /// The object that the messages make, once all of the header are met. A header whose symbol table message has
     /// fewer than 16 bytes, which isn't whole, makes no group.
     pub fn kind(&self, alloc: Global) -> Result<ObjectKind, NoMemory>
-        ensures { IfOk result (λ k. (ms : List Met) → Gathers self.now ms → AreWhole ms → IsKind ms k) }
+        ensures made { IfOk result (λ k. (ms : List Met) → Gathers self.now ms → AreWhole ms → IsKind ms k) }
+        // Whatever was met, the parts of a dataset fit one another.
+        ensures sound { IfOk result IsSound }
     {
         if let Some(table) = &self.table {
             return Ok(group(table.body.as_slice()));
@@ -145,7 +147,8 @@ impl Messages {
 
 // The group of a whole symbol table message.
 fn group(table: &[u8]) -> ObjectKind
-    ensures { 16 ≤ length table.now → result ≡ ObjectKind.Group (u64_at table.now 0) (u64_at table.now 8) }
+    ensures made { 16 ≤ length table.now → result ≡ ObjectKind.Group (u64_at table.now 0) (u64_at table.now 8) }
+    ensures sound { IsSound result }
 {
     match (get_u64(table, 0), get_u64(table, 8)) {
         (Some(tree_at), Some(heap_at)) => ObjectKind::Group { tree_at, heap_at },

@@ -5,7 +5,7 @@ use Rattle.block_space.specs.Blocks.{space_of}
 use Rattle.file_model.specs.RefusedGroups.{IsKeyRefused}
 use Rattle.block_reader.specs.Stops.{refusal_of}
 use Rattle.group_reader.proofs.EntryLemmas.{slice_is, middle_is}
-use Rattle.group_reader.proofs.ChildSteps.{UnderIn, RefusedIn, add_none, add_all, add_child, child_stops, key_stops, cut_at, cut_on, told_of}
+use Rattle.group_reader.proofs.ChildSteps.{UnderIn, RefusedIn, order_none, order_child, add_none, add_all, add_child, child_stops, key_stops, cut_at, cut_on, told_of}
 use Rattle.group_reader.proofs.IndexLemmas.{under_zero, under_zero_refused, under_more, under_more_refused, head_index, other_level, index_found, index_refused}
 use Rattle.group_reader.proofs.index.+index.Goals as goal
 
@@ -38,6 +38,7 @@ read_children-loop-i-init g t c = record {
   alike = g.V.Kept.reflexive _;
   later = search rules;
   grows = search rules;
+  ordered = order_none c.args.links.now.items;
   adds = λ tells chunk.
       add_none g.V.Space.view c.args.blocks.now c.args.table.now.segment.now c.args.table.now.heap_at c.args.node_at (IsBelow (array_of g.V.Space.view c.args.blocks.now) (ks_of c.args.table.now.leaf_k c.args.table.now.internal_k chunk) c.args.table.now.segment.now c.args.level)
       (λ e. IsBelowRefused (array_of g.V.Space.view c.args.blocks.now) e (ks_of c.args.table.now.leaf_k c.args.table.now.internal_k chunk) c.args.table.now.segment.now c.args.table.now.heap_at c.args.level) c.args.keys.now c.args.children.now c.args.links.now.items;
@@ -83,6 +84,17 @@ read_children-loop-i-preserved g t c = record {
   alike = g.V.Kept.transitive _ _ _ c.loop-i.invariant.alike c.in-Ok.ensures.alike;
   later = omega (arith, c.loop-i.invariant.later, c.in-Ok.ensures.later);
   grows = omega (arith, c.loop-i.invariant.grows, c.in-Ok.ensures.grows);
+  ordered =
+      let inv = c.loop-i.invariant in
+      let a = inv.ordered in
+      let r = c.in-Ok.ensures.ordered in
+      let begin : c.len-begin.result ≡ length c.args.links.now.items = omega (arith, c.len-begin.ensures, c.args.links.now.ok.0) in
+      let middle : c.len-middle.result ≡ length c.loop-i.links.items = omega (arith, c.len-middle.ensures, c.loop-i.links.ok.0) in
+      let done = middle_is c.len-begin.result c.len-middle.result c.args.links.now.items c.loop-i.links.items c.read_child.new.links.items c.deref.result.now a.added r.added begin middle c.deref.ensures.value a.behind r.behind in
+      let here = slice_is c.len-middle.result c.loop-i.links.items c.read_child.new.links.items c.deref-in-loop-i.result.now r.added middle c.deref-in-loop-i.ensures.value r.behind in
+      let fit : FitKeys c.args.table.now.segment.now (get_or c.args.keys.now c.loop-i.i 0) (get_or c.args.keys.now (c.loop-i.i + 1) 0) a.added r.added =
+      told_of (λ x y. FitKeys c.args.table.now.segment.now (get_or c.args.keys.now c.loop-i.i 0) (get_or c.args.keys.now (c.loop-i.i + 1) 0) x y) _ _ a.added r.added done here a.ordered r.ordered c.in-Ok-check_keys.ensures.found in
+      order_child c.args.table.now.segment.now (get_or c.args.keys.now c.loop-i.i 0) (get_or c.args.keys.now (c.loop-i.i + 1) 0) c.args.links.now.items c.loop-i.links.items c.read_child.new.links.items a r fit;
   adds = λ tells chunk.
       let below : UnderIn = λ v. IsBelow v.array (ks_of c.args.table.now.leaf_k c.args.table.now.internal_k chunk) c.args.table.now.segment.now c.args.level in
       let refused : RefusedIn = λ v e. IsBelowRefused v.array e (ks_of c.args.table.now.leaf_k c.args.table.now.internal_k chunk) c.args.table.now.segment.now c.args.table.now.heap_at c.args.level in

@@ -3,7 +3,7 @@ use Rattle.outside.specs.Space.{bounds_of}
 use Rattle.block_space.specs.Blocks.{space_of}
 use Rattle.block_reader.specs.Stops.{refusal_of}
 use Rattle.group_reader.specs.Reading.{array_of, ks_of}
-use Rattle.group_reader.proofs.LeafLemmas.{leaf_block, no_leaf, leaf_found, leaf_refused}
+use Rattle.group_reader.proofs.LeafLemmas.{ordered_ok, leaf_block, no_leaf, leaf_found, leaf_refused}
 use Rattle.group_reader.proofs.leaf.read_leaf.Goals as goal
 
 pub returns-in-Err-clause-refused : goal.returns-in-Err-clause-refused
@@ -25,3 +25,6 @@ pub returns-clause-refused : goal.returns-clause-refused
 returns-clause-refused g c = λ tells chunk.
     leaf_refused g.V.Space.view c.args.blocks.now (array_of g.V.Space.view c.args.blocks.now) (ks_of c.args.table.now.leaf_k c.args.table.now.internal_k chunk) c.args.table.now.segment.now c.args.table.now.heap_at c.args.at _ _ _ _ _
     (c.snod_size-len.ensures, c.deref.ensures.value ∙ c.in-Ok.ensures.bytes tells) c.in-Ok-read_snod.ensures.found c.deref-2.ensures.value c.push_entries.ensures.refused
+
+pub returns-clause-ordered : goal.returns-clause-ordered
+returns-clause-ordered g c = ordered_ok _ _ _ _ c.push_entries.ensures.found

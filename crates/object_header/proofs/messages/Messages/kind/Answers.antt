@@ -7,27 +7,31 @@ use Rattle.object_header.specs.Seen.{firsts_of, met_of}
 use Rattle.object_header.specs.declared.kept.Kept.{Kept}
 use Rattle.object_header.specs.declared.types.ObjectKind.TheVariants as kind
 use Rattle.object_header.proofs.KindLaws.{group_made, data_made, other_made}
+use Rattle.object_header.proofs.ToldLaws.{sound_told}
 use Rattle.object_header.proofs.messages.Messages.kind.Goals as goal
 
 table_seen : (v kept : Firsts) (place o : Option Kept) → v ≡ kept → v.table ≡ met_of 0x11 place → place ≡ o → kept.table ≡ met_of 0x11 o
 table_seen v kept place o see seen is = sym (ap (λ (x : Firsts). x.table) see) ∙ seen ∙ ap (met_of 0x11) is
 
-pub returns-in-Some : goal.returns-in-Some
-returns-in-Some c =
+pub returns-in-Some-clause-made : goal.returns-in-Some-clause-made
+returns-in-Some-clause-made c =
     λ ms h w. let table : Met = record { kind = 0x11; flags = c.in-Some.table.flags; body = c.in-Some.table.body } in
     group_made c.args.self.now ms table c.group.result (table_seen (firsts_of c.self.inside) c.args.self.now c.self.inside.table (Some c.in-Some.table) c.self.view_is refl c.in-Some.is)
-    (subst (λ (b : List ℕ). 16 ≤ length b → c.group.result ≡ kind.Group (u64_at b 0) (u64_at b 8)) c.as_slice.ensures c.group.ensures)
+    (subst (λ (b : List ℕ). 16 ≤ length b → c.group.result ≡ kind.Group (u64_at b 0) (u64_at b 8)) c.as_slice.ensures c.group.ensures.made)
     h
     w
 
-pub returns-in-Ok : goal.returns-in-Ok
-returns-in-Ok c =
+pub returns-in-Ok-clause-made : goal.returns-in-Ok-clause-made
+returns-in-Ok-clause-made c =
     λ ms h w. let none : c.self.inside.table ≡ None = grind arith in
     data_made c.args.self.now ms c.in-Ok.kind (table_seen (firsts_of c.self.inside) c.args.self.now c.self.inside.table None c.self.view_is refl none) c.in-Ok.ensures.found h
 
-pub returns-in-Err-Other : goal.returns-in-Err-Other
-returns-in-Err-Other c =
+pub returns-in-Err-Other-clause-made : goal.returns-in-Err-Other-clause-made
+returns-in-Err-Other-clause-made c =
     λ ms h w. let none : c.self.inside.table ≡ None = grind arith in
     other_made c.args.self.now ms (table_seen (firsts_of c.self.inside) c.args.self.now c.self.inside.table None c.self.view_is refl none)
     (c.in-Err-Other.ensures.other (ap (λ s. Err s) c.in-Err-Other.field-0-is))
     h
+
+pub returns-in-Ok-clause-sound : goal.returns-in-Ok-clause-sound
+returns-in-Ok-clause-sound c = sound_told c.args.self.now c.in-Ok.kind c.in-Ok.ensures.found
