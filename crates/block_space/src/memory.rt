@@ -44,6 +44,8 @@ impl Space for MemorySpace {
 
     ghost moment = { λ _. 0 };
 
+    ghost GoesOn = { λ _ _. Unit {0} };
+
     ghost Steady = { λ _. ⊥ };
 
     ghost Leaves = { λ _ _ _. ⊥ };
@@ -116,6 +118,10 @@ impl Space for MemorySpace {
     }
 
     ghost alike = { λ a b h. ap view_of h };
+
+    ghost goes_alike = { λ a b h. tt };
+
+    ghost goes_further = { λ a b c first second. tt };
 
     ghost sound = { λ a. are_regions a.bytes.items };
 }

@@ -72,6 +72,10 @@ pub trait Space: Kept {
     /// The number of calls on the outside so far.
     ghost moment: { Self → ℕ };
 
+    /// The second came from the first by calls, whatever they answered: it keeps its bytes in the same files, and nothing
+    /// else of the outside has changed.
+    ghost GoesOn: { Self → Self → Type 0 };
+
     /// Every image that a stop now may leave has just the committed revisions.
     ghost Steady: { Self → Type 0 };
 
@@ -110,6 +114,7 @@ pub trait Space: Kept {
         ensures moment { moment self.old ≤ moment self.new }
         ensures steady { IsTrue tells_stops → Steady self.old → OnOk result (Steady self.new) }
         ensures leaves { IsTrue tells_stops → Steady self.old → LeaveOnly (moment self.old) (λ list. list ≡ revisions_of (view self.old)) (Leaves self.new) }
+        ensures goes { GoesOn self.old self.new }
         ensures past { IsTrue tells_stops → Continue (moment self.old) (Leaves self.old) (Leaves self.new) };
 
     /// Moves the end of a region up to `end`, which is at most its limit. The new bytes read as 0.
@@ -128,6 +133,7 @@ pub trait Space: Kept {
         ensures moment { moment self.old ≤ moment self.new }
         ensures steady { IsTrue tells_stops → Steady self.old → OnOk result (Steady self.new) }
         ensures leaves { IsTrue tells_stops → Steady self.old → LeaveOnly (moment self.old) (λ list. list ≡ revisions_of (view self.old)) (Leaves self.new) }
+        ensures goes { GoesOn self.old self.new }
         ensures past { IsTrue tells_stops → Continue (moment self.old) (Leaves self.old) (Leaves self.new) };
 
     /// Makes room for writes and raises in these ranges, in ascending order of their starts, and for no others.
@@ -142,6 +148,7 @@ pub trait Space: Kept {
         ensures rests { Rests self.old → Rests self.new }
         ensures moment { moment self.new ≡ moment self.old }
         ensures steady { IsTrue tells_stops → Steady self.old → Steady self.new }
+        ensures goes { GoesOn self.old self.new }
         ensures past { IsTrue tells_stops → (m : ℕ) (list : List Stored) → Leaves self.new m list → Leaves self.old m list };
 
     /// Makes all files last as they read.
@@ -158,6 +165,7 @@ pub trait Space: Kept {
         ensures moment { moment self.old ≤ moment self.new }
         ensures steady { IsTrue tells_stops → Steady self.old → OnOk result (Steady self.new) }
         ensures leaves { IsTrue tells_stops → Steady self.old → LeaveOnly (moment self.old) (λ list. list ≡ revisions_of (view self.old)) (Leaves self.new) }
+        ensures goes { GoesOn self.old self.new }
         ensures past { IsTrue tells_stops → Continue (moment self.old) (Leaves self.old) (Leaves self.new) };
 
     fn region(&self, class: MemClass) -> Region
@@ -204,10 +212,16 @@ pub trait Space: Kept {
         ensures steady { IsTrue tells_stops → Steady self.old → OnOk result (Steady self.new) }
         ensures steady_still { IsTrue tells_stops → Steady self.old → IsErrOf result CommitStop.NoMemory → Steady self.new }
         ensures leaves { IsTrue tells_stops → Steady self.old → LeaveOnly (moment self.old) (λ list. MayBeMade comment.now secs (view self.old) list) (Leaves self.new) }
+        ensures goes { GoesOn self.old self.new }
         ensures past { IsTrue tells_stops → Continue (moment self.old) (Leaves self.old) (Leaves self.new) };
 
     /// Alike spaces tell the same.
     ghost alike: { (a b : Self) → Self.Alike a b → view a ≡ view b };
+
+    /// What a read leaves goes on from before, and a run of calls goes on as each of them does.
+    ghost goes_alike: { (a b : Self) → Self.Alike a b → GoesOn a b };
+
+    ghost goes_further: { (a b c : Self) → GoesOn a b → GoesOn b c → GoesOn a c };
 
     /// Each end lies between the start and the limit of its region, and all numbers are of 64 bits.
     ghost sound: { (a : Self) → AreRegions (view a) };

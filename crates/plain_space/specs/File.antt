@@ -50,3 +50,12 @@ pub record Looks (tells tells_images : Bool) (id : ℕ) (v w : View) (leaves new
   pub others : (k : Option ℕ) → k ≢ Some id → w.counts k ≡ v.counts k
   pub fewer : IsTrue tells_images → (c : Files) → new_leaves c → leaves c
   pub since : IsTrue tells_images → GoesOver (λ _. ⊥) leaves new_leaves past new_past
+
+-- What a run of calls on one file leaves of its store: names, the other files and their faults stay, and each image and each
+-- snapshot since agrees with one that a stop could leave before in every other file.
+pub record Touches (tells tells_images : Bool) (id : ℕ) (v w : View) (leaves new_leaves : Files → Type 0) (past new_past : Snapshot → Type 0) : Type 0 where
+  pub names : w.names ≡ v.names
+  pub ids : w.ids ≡ v.ids
+  pub goes : Goes tells (λ q. q ≡ v.names id) v w
+  pub others : (k : Option ℕ) → k ≢ Some id → w.counts k ≡ v.counts k
+  pub since : IsTrue tells_images → GoesOver (λ q. q ≡ v.names id) leaves new_leaves past new_past

@@ -1,3 +1,4 @@
 pub mod File
 pub mod Plain
 pub mod Alike
+pub mod CameFrom

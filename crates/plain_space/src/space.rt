@@ -96,6 +96,7 @@ impl<S: Store> Space for PlainSpace<S> {
     ghost use Rattle.std.specs.Prelude.{Bool, false, Some};
     ghost use Rattle.plain_space.specs.File.{view_of, IsOpen, RestsIn};
     ghost use Rattle.plain_space.specs.Alike.{view_alike, are_regions};
+    ghost use Rattle.plain_space.specs.CameFrom.{CameFrom, came_alike, came_on};
 
     ghost tells = { S.tells_files };
 
@@ -112,6 +113,8 @@ impl<S: Store> Space for PlainSpace<S> {
     ghost Rests = { λ s. RestsIn S.tells_files S.tells_images (S.view s.store) (S.leaves s.store) s.id.n };
 
     ghost moment = { λ s. (S.view s.store).moment };
+
+    ghost GoesOn = { λ a b. CameFrom S.tells_files S.tells_images (S.view a.store) (S.view b.store) (S.leaves a.store) (S.leaves b.store) (S.past a.store) (S.past b.store) a b };
 
     ghost Steady = { λ _. ⊥ };
 
@@ -187,6 +190,11 @@ impl<S: Store> Space for PlainSpace<S> {
     }
 
     ghost alike = { λ a b h. view_alike S.tells_files S.tells_images (S.view a.store) (S.view b.store) (S.leaves a.store) (S.leaves b.store) (S.past a.store) (S.past b.store) a b h };
+
+    ghost goes_alike = { λ a b h. came_alike S.tells_files S.tells_images (S.view a.store) (S.view b.store) (S.leaves a.store) (S.leaves b.store) (S.past a.store) (S.past b.store) a b h };
+
+    ghost goes_further = { λ a b c first second. came_on S.tells_files S.tells_images (S.view a.store) (S.view b.store) (S.view c.store)
+        (S.leaves a.store) (S.leaves b.store) (S.leaves c.store) (S.past a.store) (S.past b.store) (S.past c.store) a b c first second };
 
     ghost sound = { λ a. are_regions S.tells_files (S.view a.store) a.id.n a.end a.prepared.items a.short };
 }

@@ -1,5 +1,5 @@
 // A file as a space.
-use crate::steps::{raise, read, write};
+use crate::steps::{overwritten, raise, read, write};
 use h5_base::{Bytes, MemClass, Name};
 use mem_store::{Fail, MemStore, NamedBytes, Op, Room};
 use outside::{Space, Store};
@@ -56,7 +56,9 @@ fn a_file_is_read_and_written(rt: HostRuntime) -> Result<(), test::Fail> {
     raise(alloc, &mut space, MemClass::Header, 9)?;
     write(alloc, &mut space, MemClass::Raw, 8, b"!".as_slice())?;
     space.settle()?;
-    let store = space.into_store();
-    assert_eq!(rt; store.bytes_of(&name), b"abXYZf\0\0!".as_slice());
+    let mut store = space.into_store();
+    let id = store.file(&name)?;
+    let store = overwritten(alloc, store, id, 0, b"A".as_slice())?;
+    assert_eq!(rt; store.bytes_of(&name), b"AbXYZf\0\0!".as_slice());
     Ok(())
 }
