@@ -13,16 +13,13 @@ use Rattle.h5_base.specs.declared.kinds.BlockKind.TheVariants as kind
 use Rattle.h5_base.specs.declared.kinds.What.TheVariants as what
 use Rattle.header_codec.specs.Headers.{SpellsPrefix}
 use Rattle.header_codec.specs.declared.types.Prefix.{Prefix}
-use Rattle.file_model.specs.Headers.{Part, IsHeader, messages_of, header_blocks, later_header}
+use Rattle.file_model.specs.Headers.{later_header}
 use Rattle.file_model.specs.Limits.{most_header}
 use Rattle.file_model.specs.Refusals.{Refusal, Malformed, Unsupported, IsBlockRefused, IsMessageRefused, IsHeaderRefused, LaterHeader, PrefixBlock, NoPrefix, LargeFirst, HeaderBlock, InMessages}
-use Rattle.object_header.specs.Firsts.{Firsts}
-use Rattle.object_header.specs.Gathered.{Gathers, IsKind}
-use Rattle.object_header.specs.declared.types.ObjectKind.{ObjectKind}
 use Rattle.header_reader.specs.declared.reading.Header.{Header}
-use Rattle.header_reader.specs.declared.reading.Header.TheVariants.{Later, Known}
+use Rattle.header_reader.specs.declared.reading.Header.TheVariants.{Later}
 use Rattle.header_reader.specs.Found.{IsFound}
-use Rattle.header_reader.specs.Walks.{HasPrefix, IsGathered}
+use Rattle.header_reader.specs.Walks.{HasPrefix}
 use Rattle.header_reader.proofs.High.{refused_less}
 
 -- ---- by the messages

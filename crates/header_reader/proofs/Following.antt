@@ -1,11 +1,11 @@
 -- One message more: what it names, and why it is refused.
-use Rattle.std.proofs.Common.{◌≡◌, ◌⊎◌, ℕ, zero, suc, ◌+◌, ◌-◌, ◌<◌, ◌≤◌, ◌==◌, Bool, true, false, List, [], ◌∷◌, ◌++◌, length, take, drop, Option, Some, None, IfSome, Result, Ok, Err, IfErr, refl, sym, ◌∙◌, ap, subst, arith, inl, inr}
+use Rattle.std.proofs.Common.{◌≡◌, ◌⊎◌, ℕ, zero, suc, ◌+◌, ◌-◌, ◌<◌, ◌≤◌, ◌==◌, false, List, [], ◌∷◌, ◌++◌, length, take, drop, Option, Some, None, IfSome, Result, Ok, Err, IfErr, refl, sym, ◌∙◌, ap, subst, arith}
 use Rattle.std.specs.List.{flat_map}
 use Rattle.std.proofs.lemmas.Bool.Decides.{nat_tests}
 use Rattle.std.proofs.lemmas.List.{append_assoc, append-nil, flat_map_more, length-append, length-drop, length-take-le}
 use Rattle.std.proofs.lemmas.List.Sums.{sum_by-append}
 use Rattle.std.proofs.lemmas.Grind.{flat_map-append}
-use Rattle.h5_base.specs.Fields.{bytes_at, u64_at}
+use Rattle.h5_base.specs.Fields.{u64_at}
 use Rattle.outside.specs.Blocks.{Block, Bounds, placed}
 use Rattle.outside.specs.Space.{SpaceView, bounds_of}
 use Rattle.block_space.specs.Blocks.{Keeps}
@@ -14,13 +14,12 @@ use Rattle.block_reader.specs.declared.stop.TreeStop.{TreeStop}
 use Rattle.block_reader.specs.Stops.{refusal_of}
 use Rattle.header_codec.specs.Headers.{SpellsMessage}
 use Rattle.header_codec.specs.declared.types.Message.{Message}
-use Rattle.outside.specs.Array.{Array, bytes_of}
-use Rattle.file_model.specs.Headers.{Met, Stand, after, IsWhole, AreWhole, continued}
-use Rattle.file_model.specs.Refusals.{Refusal, IsPlacedRefused, met_bytes}
+use Rattle.file_model.specs.Headers.{Met, Stand, after, AreWhole, continued}
+use Rattle.file_model.specs.Refusals.{Refusal, met_bytes}
 use Rattle.file_model.specs.Limits.{most_header}
 use Rattle.object_header.specs.Gathered.{Gathers}
 use Rattle.header_reader.specs.declared.walk.Walk.{Walk}
-use Rattle.header_reader.specs.Walks.{IsNameRefused, TooLarge, BadBlock, IsMessageAt, IsStepRefused, BadMessage, LargeHeader, BadContinuation, Meets, IsBlockStop, AreMessages, waiting_of}
+use Rattle.header_reader.specs.Walks.{IsNameRefused, TooLarge, BadBlock, IsMessageAt, IsStepRefused, LargeHeader, BadContinuation, Meets, IsBlockStop, waiting_of}
 
 pub if_some : {A : Type 0} (o : Option A) (P Q : A → Type 0) → ((a : A) → P a → Q a) → IfSome o P → IfSome o Q
 if_some None P Q f h = tt

@@ -1,5 +1,5 @@
 -- A block that passes the last address is refused beside those that were met for the same reason, however long it is.
-use Rattle.std.proofs.Common.{◌≡◌, ◌⊎◌, ℕ, ◌+◌, ◌^◌, ◌<◌, ◌≤◌, List, [], ◌∷◌, Option, refl, sym, subst, arith, inl, inr}
+use Rattle.std.proofs.Common.{ℕ, ◌+◌, ◌^◌, ◌<◌, ◌≤◌, List, [], ◌∷◌, Option, subst, arith, inl, inr}
 use Rattle.std.specs.List.{Contains}
 use Rattle.outside.specs.Blocks.{Block, Bounds, BlockFault, TooMany, LinkedTwice, Overlap, Outside, AreApart, IsApart, IsInside, AllInside, IsFault}
 use Rattle.outside.specs.Space.{SpaceView, AreRegions, bounds_of}

@@ -15,9 +15,9 @@ use Rattle.block_space.specs.Blocks.{Keeps}
 use Rattle.block_space.specs.declared.blocks.Blocks.{Blocks}
 use Rattle.header_codec.specs.declared.types.Prefix.{Prefix}
 use Rattle.h5_base.specs.declared.kinds.BlockKind.TheVariants as kind
-use Rattle.file_model.specs.Headers.{Met, Stand, after, AreWhole, Part, AreMet, continued, first_block, header_blocks, messages_of}
+use Rattle.file_model.specs.Headers.{Met, after, AreWhole, Part, AreMet, continued, first_block, header_blocks, messages_of}
 use Rattle.file_model.specs.Limits.{header_bytes, most_header}
-use Rattle.file_model.specs.Refusals.{Refusal, Malformed, EndedEarly, IsPlacedRefused, IsReading, IsNext, IsMessageRefused, so_far, met_bytes}
+use Rattle.file_model.specs.Refusals.{Refusal, Malformed, EndedEarly, IsPlacedRefused, IsReading, IsNext, IsMessageRefused, met_bytes}
 use Rattle.file_model.specs.Refusals.{BadMessage as RefusedMessage, LargeHeader as RefusedLarge, BadContinuation as RefusedContinuation}
 use Rattle.file_model.proofs.NoHeader.{messages_so_far}
 use Rattle.object_header.specs.Firsts.{Firsts}

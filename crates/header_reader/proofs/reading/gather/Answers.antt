@@ -1,7 +1,5 @@
 -- The parts of a header are met one after another; each begins with the block that waits first.
-use Rattle.std.proofs.Common.{◌≡◌, ◌++◌, ◌∷◌, [], refl, ap, map, arith}
-use Rattle.h5_base.specs.declared.extent.Extent.{Extent}
-use Rattle.outside.specs.Blocks.{Block}
+use Rattle.std.proofs.Common.{◌++◌, ◌∷◌, [], refl, ap, map, arith}
 use Rattle.header_reader.specs.Walks.{block_of}
 use Rattle.header_reader.specs.declared.walk.Walk.{Walk}
 use Rattle.header_reader.proofs.Following.{if_some}

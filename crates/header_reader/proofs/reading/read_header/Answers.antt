@@ -1,6 +1,5 @@
 -- The first bytes say which version a header has, and whether it has a prefix.
 use Rattle.std.proofs.Common.{◌≡◌, ◌∙◌, ◌∷◌, []}
-use Rattle.outside.specs.Space.{SpaceView}
 use Rattle.header_reader.proofs.Following.{if_some}
 use Rattle.header_reader.proofs.Answered.{AreFirst, later_read, later_found, later_refused, prefix_read, prefix_refused, refused_back, first_on, found_same, refused_same, none_later, none_spelled}
 use Rattle.header_reader.proofs.reading.read_header.Goals as goal

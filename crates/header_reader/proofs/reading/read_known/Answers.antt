@@ -1,6 +1,5 @@
 -- Each stop of the header's own block or of its messages refuses the header.
 use Rattle.std.proofs.Common.{◌≡◌, ap, sym, arith}
-use Rattle.outside.specs.Space.{SpaceView}
 use Rattle.header_reader.proofs.Following.{if_some}
 use Rattle.header_reader.proofs.Answered.{large_first, header_block, in_messages}
 use Rattle.header_reader.proofs.reading.read_known.Goals as goal

@@ -1,4 +1,4 @@
-use Rattle.std.proofs.Common.{◌≡◌, ◌∷◌, [], ◌++◌, refl, ap, ◌∙◌, arith}
+use Rattle.std.proofs.Common.{◌∷◌, [], ◌++◌, refl, ap, ◌∙◌, arith}
 use Rattle.outside.specs.Space.{bounds_of}
 use Rattle.header_reader.proofs.Following.{if_some, kept_none, kept_more, meets_none, meets_on, stand_next, whole_next, after_next, block_stop}
 use Rattle.header_reader.proofs.walk.Walk.meet_all.Goals as goal
