@@ -1,4 +1,4 @@
-// A small space in memory, of addresses below 2048. Each write is a fault.
+// A small space in memory, of addresses below 2048. Each write is a fault, and its count of faults is at its end.
 use h5_base::{Comment, Extent, MemClass, NoMemory, Region};
 use outside::{CommitAnswer, CommitStop, Failed, Kept, Space, WriteStop};
 
@@ -6,7 +6,6 @@ use outside::{CommitAnswer, CommitStop, Failed, Kept, Space, WriteStop};
 #[derive(Drop)]
 pub struct MemorySpace {
     pub bytes: Vec<u8>,
-    pub faults: u64,
 }
 
 impl Kept for MemorySpace {
@@ -18,7 +17,7 @@ impl Kept for MemorySpace {
 }
 
 impl Space for MemorySpace {
-    ghost use Rattle.std.specs.Prelude.{false};
+    ghost use Rattle.std.specs.Prelude.{false, ◌-◌, ◌^◌};
     ghost use Rattle.std.proofs.Common.{refl};
     ghost use Rattle.storage_reader.specs.Memory.{view, are_regions};
 
@@ -30,7 +29,7 @@ impl Space for MemorySpace {
 
     ghost Stands = { λ _. Unit {0} };
 
-    ghost faults = { λ s. s.faults };
+    ghost faults = { λ _. 2 ^ 64 - 1 };
 
     ghost copy_faults = { λ _. 0 };
 
@@ -50,12 +49,10 @@ impl Space for MemorySpace {
     }
 
     fn write(&mut self, _: u64, _: &[u8]) -> Result<(), WriteStop> {
-        self.faults = self.faults.saturating_add(1);
         Err(WriteStop::Failed)
     }
 
     fn raise(&mut self, _: MemClass, _: u64) -> Result<(), WriteStop> {
-        self.faults = self.faults.saturating_add(1);
         Err(WriteStop::Failed)
     }
 
@@ -64,7 +61,6 @@ impl Space for MemorySpace {
     }
 
     fn settle(&mut self) -> Result<(), WriteStop> {
-        self.faults = self.faults.saturating_add(1);
         Err(WriteStop::Failed)
     }
 
@@ -96,7 +92,6 @@ impl Space for MemorySpace {
     }
 
     fn commit(&mut self, _: &Comment, _: i64) -> Result<CommitAnswer, CommitStop> {
-        self.faults = self.faults.saturating_add(1);
         Err(CommitStop::Failed)
     }
 

@@ -28,9 +28,10 @@ use std::alloc::Global;
 const UNDEFINED: u64 = 0xFFFF_FFFF_FFFF_FFFF;
 
 /// Takes what is stored of a dataset into the catalogue: the one block of a contiguous dataset, or the nodes and chunks
-/// of a chunk index (HDF5 File Format Specification 3.0, III.A.1 and IV.A.2.i). Nothing is stored at an undefined
-/// address, and a filtered dataset's chunk index isn't read. `Malformed`, `LinkedTwice`, `Overlap` and `TooMany` come
-/// where the first block or node that doesn't fit says so, from left to right.
+/// of a chunk index, from left to right (HDF5 File Format Specification 3.0, III.A.1 and IV.A.2.i). An undefined address
+/// has no block, and a filtered dataset's index isn't read. `Malformed` tells a block that leaves its region's end, or a
+/// node that spells none, isn't of the level below its parent's, or whose chunks have other bytes or offsets than the
+/// dataset and the keys want; `LinkedTwice`, `Overlap` and `TooMany` tell what a block does beside those met before.
 pub fn adopt_storage<V: Space>(
     alloc: Global,
     blocks: &mut Blocks<V>,

@@ -63,7 +63,7 @@ fn adopted(
     for ((level, numbers), end) in nodes.iter().zip([112, 224, 336]) {
         append_node(&mut bytes, *level, numbers, end)?;
     }
-    let mut blocks = Blocks::new(alloc, MemorySpace { bytes, faults: 0 });
+    let mut blocks = Blocks::new(alloc, MemorySpace { bytes });
     let shape = Shape {
         dims: Dims::from_slice(alloc, &[count])?,
         max: None,
