@@ -1,11 +1,12 @@
 -- First messages tell at most one dataset, whose parts fit one another.
-use Rattle.std.proofs.Common.{◌≡◌, ℕ, List, Option, Some, None, sym, subst, ◌∙◌, inl, inr}
+use Rattle.std.proofs.Common.{◌≡◌, ℕ, Bool, List, Option, Some, None, sym, subst, ◌∙◌, inl, inr}
 use Rattle.dtype.specs.Shapes.{SpellsShape}
-use Rattle.dtype.specs.Types.{SpellsType, size_of}
+use Rattle.dtype.specs.Types.{IsElemType, SpellsType, size_of}
 use Rattle.dtype.specs.declared.types.ElemType.{ElemType}
 use Rattle.dtype.specs.declared.types.Shape.{Shape}
 use Rattle.dtype.proofs.TypeLaws.{type_unique}
 use Rattle.header_codec.specs.Layouts.{SpellsLayout}
+use Rattle.header_codec.specs.Fills.{IsOfSize}
 use Rattle.header_codec.specs.Written.{IsLayout}
 use Rattle.header_codec.specs.declared.types.Fill.{Fill}
 use Rattle.header_codec.specs.declared.types.Layout.{Layout}
@@ -54,7 +55,24 @@ told_layout : (o : Option Met) (l : Layout) → Tells SpellsLayout o l → IsLay
 told_layout None l h = absurd h
 told_layout (Some m) l h = spelled_layout l m.body h.1
 
+spelled_elem : (t : ElemType) (b : List ℕ) → SpellsType t b → IsElemType t
+spelled_elem t b (inl h) = subst IsElemType (sym h.1) h.0.size
+spelled_elem t b (inr h) = subst IsElemType (sym h.1) h.0.size
+
+told_elem : (o : Option Met) (t : ElemType) → Tells SpellsType o t → IsElemType t
+told_elem None t h = absurd h
+told_elem (Some m) t h = spelled_elem t m.body h.1
+
+told_fill : (old_fill : Bool) (size : ℕ) (o : Option Met) (f : Fill) → TellsFill old_fill size o f → IsOfSize size f
+told_fill old_fill size None f h = subst (IsOfSize size) (sym h.1) tt
+told_fill old_fill size (Some m) f h = h.2
+
 pub sound_told : (kept : Firsts) (k : ObjectKind) → TellsData kept k → IsSound k
 sound_told kept (kind.Group tree heap) h = absurd h
-sound_told kept (kind.Dataset shape elem fill layout filtered) h = (h.0.fit, told_layout kept.layout layout h.0.stored)
+sound_told kept (kind.Dataset shape elem fill layout filtered) h = record {
+  fit = h.0.fit;
+  elem_is = told_elem kept.elem elem h.0.type;
+  fill_is = told_fill kept.old_fill (size_of elem) kept.fill fill h.0.filled;
+  layout_is = told_layout kept.layout layout h.0.stored;
+}
 sound_told kept kind.Other h = absurd h

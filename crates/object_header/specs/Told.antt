@@ -3,7 +3,7 @@
 use Rattle.std.specs.Prelude.{◌≡◌, ℕ, Bool, false, List, Option, Some, None, length}
 use Rattle.dtype.specs.Products.{FitsFile}
 use Rattle.dtype.specs.Shapes.{SpellsShape}
-use Rattle.dtype.specs.Types.{SpellsType, size_of}
+use Rattle.dtype.specs.Types.{IsElemType, SpellsType, size_of}
 use Rattle.dtype.specs.declared.types.ElemType.{ElemType}
 use Rattle.dtype.specs.declared.types.Shape.{Shape}
 use Rattle.header_codec.specs.Fills.{SpellsFill, IsOfSize}
@@ -33,10 +33,16 @@ pub record Fit (shape : Shape) (elem : ElemType) (layout : Layout) : Type 0 wher
   pub fits : FitsFile shape.dims (size_of elem)
   pub stored : IsOfShape (length shape.dims) (size_of elem) layout
 
--- A dataset's parts fit one another, and its layout is one that a header can tell.
+-- The parts of a dataset that can be read: they fit one another, and a header can tell each of them.
+pub record IsSoundData (shape : Shape) (elem : ElemType) (fill : Fill) (layout : Layout) : Type 0 where
+  pub fit : Fit shape elem layout
+  pub elem_is : IsElemType elem
+  pub fill_is : IsOfSize (size_of elem) fill
+  pub layout_is : IsLayout layout
+
 abbrev pub IsSound : ObjectKind → Type 0
 IsSound (kind.Group tree heap) = Unit {0}
-IsSound (kind.Dataset shape elem fill layout filtered) = Fit shape elem layout × IsLayout layout
+IsSound (kind.Dataset shape elem fill layout filtered) = IsSoundData shape elem fill layout
 IsSound kind.Other = Unit {0}
 
 -- These are the parts of a dataset.

@@ -55,10 +55,10 @@ none_before (Link m u rest) n h = let other = lt_not_same m n h.0 in rw other (n
 
 -- ---- the group that grows
 
-some_is : (a c : Kept) → Some a ≡ Some c → a ≡ c
+pub some_is : (a c : Kept) → Some a ≡ Some c → a ≡ c
 some_is a c h = cc
 
-not_none : (a : Kept) → Some a ≡ None → ⊥
+pub not_none : (a : Kept) → Some a ≡ None → ⊥
 not_none a h = cc
 
 pub grows_none : (kept : ObjectTree) (key : ℕ) → Grows kept kept key Empty

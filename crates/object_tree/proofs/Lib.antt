@@ -4,3 +4,4 @@ pub mod SoFar
 pub mod Objects
 pub mod Joined
 pub mod Rooted
+pub mod Sounds

@@ -1,3 +1,4 @@
 pub mod KValues
 pub mod Opened
 pub mod Grown
+pub mod Sound

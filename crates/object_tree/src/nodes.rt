@@ -10,6 +10,7 @@ ghost use Rattle.header_reader.specs.Found.{IsFound};
 ghost use Rattle.object_header.specs.Told.{IsSound};
 ghost use Rattle.header_reader.specs.declared.reading.Header.TheVariants as Header;
 ghost use Rattle.object_tree.specs.KValues.{ks_of_values};
+ghost use Rattle.object_tree.specs.Sound.{IsSoundNode};
 
 use crate::k_values::KValues;
 use block_reader::TreeStop;
@@ -37,6 +38,7 @@ pub(crate) fn read_node<V: Space>(
     requires listed { (met : List Block) × Keeps V.view blocks.old met }
     ensures found { IsTrue V.tells → IfOk result (λ n. (met : List Block) → Keeps V.view blocks.old met → (own : List Block) × IsNodeFound (V.view (space_of blocks.old)).array (ks_of_values ks) at n own × Keeps V.view blocks.new (met ++ own)) }
     ensures few { OnOk result (objects < 65536) }
+    ensures sound { IfOk result IsSoundNode }
     ensures refused { IsTrue V.tells → IfErr result (λ stop. (levels : ℕ) (met : List Block) (own : Option (List ℕ)) → Keeps V.view blocks.old met
         → IfSome (refusal_of stop) (IsRefusedWith (IsObjectRefused (V.view (space_of blocks.old)).array (bounds_of (V.view (space_of blocks.old)) own) (ks_of_values ks) levels)
         (V.view (space_of blocks.old)).array (bounds_of (V.view (space_of blocks.old)) own) (ks_of_values ks) objects met at)) }
@@ -72,6 +74,7 @@ fn node_of<V: Space>(
     ensures refused { IsTrue V.tells → IfErr result (λ stop. (levels objects : ℕ) (met bs : List Block) (own : Option (List ℕ)) → IsFound (V.view (space_of blocks.old)).array at (Header.Known kind) bs → Keeps V.view blocks.old (met ++ bs)
         → IfSome (refusal_of stop) (IsRefusedWith (IsObjectRefused (V.view (space_of blocks.old)).array (bounds_of (V.view (space_of blocks.old)) own) (ks_of_values ks) levels)
         (V.view (space_of blocks.old)).array (bounds_of (V.view (space_of blocks.old)) own) (ks_of_values ks) objects met at)) }
+    ensures sound { IfOk result IsSoundNode }
     ensures alike { V.Alike (space_of blocks.old) (space_of blocks.new) }
     ensures stands { (IsErrOf result TreeStop.Failed → ⊥) → V.Stands (space_of blocks.new) }
     ensures listed { OnOk result ((met : List Block) × Keeps V.view blocks.new met) }

@@ -11,6 +11,8 @@ use Rattle.tree_nodes.specs.Shown.{single}
 use Rattle.tree_nodes.specs.Entries.{LacksLink, object_count}
 use Rattle.object_tree.specs.Grown.{LinksAscend}
 use Rattle.object_tree.specs.KValues.{ks_of_values}
+use Rattle.object_tree.specs.Sound.{AreSound}
+use Rattle.object_tree.proofs.Sounds.{sound_insert}
 use Rattle.object_tree.proofs.Growth.{grows_none, grows_more, last_link, adds_leaf}
 use Rattle.object_tree.proofs.SoFar.{lacks_link, so_far_none, so_far_more, refused_next, names_more, ascend_link}
 use Rattle.object_tree.proofs.Objects.{soft_opened_to, keeps_none, leaf_opened, table_object, refused_counted}
@@ -24,6 +26,7 @@ open_each-loop-link-init g c = λ d. record {
   alike = search rules;
   later = omega arith;
   few = d.requires.few;
+  sound = d.requires.sound;
   left = search rules;
   opened = (Empty, grows_none d.args.tree.now d.args.group.key, refl, λ told. so_far_none g.V.Space.view d.args.blocks.now _ (ks_of_values d.args.ks) d.args.levels);
 }
@@ -48,6 +51,7 @@ open_each-loop-link-preserved g c = λ d.
       alike = g.V.Kept.transitive _ _ _ d.loop-link.invariant.alike d.in-Ok.ensures.alike;
       later = search rules;
       few = search rules;
+      sound = search rules;
       left = is ∙ sym (append_assoc d.loop-link.yielded (d.in-Some.link ∷ []) _);
       opened = (
         last_link o.0 d.in-Some.link.name a.0,
@@ -131,3 +135,16 @@ open_object-returns-in-Some-clause-refused g c = λ d told.
     let table = sym d.table_of-table.ensures ∙ d.in-Some.is in
     object_refused g.V.Space.view d.args.blocks.now _ _ _ (ks_of_values d.args.ks) d.args.levels _ _ d.args.at d.in-Some.tree_at d.in-Some.heap_at d.in-Ok.node d.open_links.result same (omega (arith, d.if-levels-eq0.false)) table
     (d.in-Ok-add.ensures.added.objects ∙ ap (λ k. object_count d.args.tree.now + k) (table_object d.in-Ok.node d.in-Some.tree_at d.in-Some.heap_at table)) (d.in-Ok.ensures.found told) (d.open_links.ensures.refused told)
+
+pub open_link-returns-in-Ok-clause-sound : goal.open_link-returns-in-Ok-clause-sound
+open_link-returns-in-Ok-clause-sound g t c =
+    sound_insert c.args.tree.now c.add.new.tree c.args.group c.args.link.name c.in-Ok.field-0.key (node.Soft c.in-Soft.text) c.requires.lacks c.requires.ordered c.in-Ok.ensures.added tt c.requires.sound
+
+pub open_object-open_links-requires : goal.open_object-open_links-requires
+open_object-open_links-requires g t c κs within =
+    let sound : AreSound c.add.new.tree = sound_insert c.args.tree.now c.add.new.tree c.args.group c.args.name c.in-Ok-add.id.key c.in-Ok.node c.requires.lacks c.requires.ordered c.in-Ok-add.ensures.added c.in-Ok.ensures.sound c.requires.sound in
+    search rules
+
+pub open_object-returns-in-None-clause-sound : goal.open_object-returns-in-None-clause-sound
+open_object-returns-in-None-clause-sound g t c =
+    sound_insert c.args.tree.now c.add.new.tree c.args.group c.args.name c.in-Ok-add.id.key c.in-Ok.node c.requires.lacks c.requires.ordered c.in-Ok-add.ensures.added c.in-Ok.ensures.sound c.requires.sound
