@@ -21,7 +21,7 @@ ghost use Rattle.tree_nodes.specs.Entries.{superblock_of, object_count};
 ghost use Rattle.tree_nodes.specs.Shown.{KeyedLinks};
 ghost use Rattle.object_tree.specs.KValues.{ks_of_values};
 ghost use Rattle.object_tree.specs.Opened.{IsOpened};
-ghost use Rattle.object_tree.specs.Sound.{AreSound};
+ghost use Rattle.object_tree.specs.Sound.{IsSoundTree};
 ghost use Rattle.object_tree.specs.Grown.{HasRoot, AreOpened, IsGroupRefused, table_of_kind};
 
 use crate::k_values::KValues;
@@ -103,7 +103,7 @@ fn open_root<V: Space>(
         → IfOk result (λ kept. IsOpened (V.view (space_of blocks.old)).array (bounds_of (V.view (space_of blocks.old)) None) kept) }
     ensures refused { IsTrue V.tells → Spells superblock (super_bytes_of (V.view (space_of blocks.old)).array (bounds_of (V.view (space_of blocks.old)) None))
         → IfErr result (λ stop. IfSome (refusal_of stop) (IsFileRefused (V.view (space_of blocks.old)).array (bounds_of (V.view (space_of blocks.old)) None))) }
-    ensures sound { IfOk result AreSound }
+    ensures sound { IfOk result IsSoundTree }
     ensures alike { V.Alike (space_of blocks.old) (space_of blocks.new) }
     ensures stands { (IsErrOf result TreeStop.Failed → ⊥) → V.Stands (space_of blocks.new) }
     ensures listed { OnOk result ((met : List Block) × Keeps V.view blocks.new met) }
@@ -159,7 +159,7 @@ fn open_below<V: Space>(
         × IsSmallHeap (V.view (space_of blocks.old)).array heap_at × AreOpened (V.view (space_of blocks.old)).array (ks_of_values ks) 32 kls ls × Keeps V.view blocks.new (met ++ (index ++ blocks_in ls)))) }
     ensures refused { IsTrue V.tells → IfErr result (λ stop. (met : List Block) (own : Option (List ℕ)) → Keeps V.view blocks.old met
         → IfSome (refusal_of stop) (IsGroupRefused (V.view (space_of blocks.old)).array (bounds_of (V.view (space_of blocks.old)) own) (ks_of_values ks) 32 1 met tree_at heap_at)) }
-    ensures sound { IfOk result AreSound }
+    ensures sound { IfOk result IsSoundTree }
     ensures alike { V.Alike (space_of blocks.old) (space_of blocks.new) }
     ensures stands { (IsErrOf result TreeStop.Failed → ⊥) → V.Stands (space_of blocks.new) }
     ensures listed { OnOk result ((met : List Block) × Keeps V.view blocks.new met) }
@@ -192,7 +192,7 @@ pub fn open_tree<V: Space>(alloc: Global, blocks: &mut Blocks<V>) -> Result<Obje
     // A tree that is held within the limits is refused by no line.
     ensures complete { IsTrue V.tells → (s : Superblock) (g : GroupAt) (ls : FullLinks) (h : HoldsFull (V.view (space_of blocks.old)).array (bounds_of (V.view (space_of blocks.old)) None) s g ls)
         → IsWithinLimits (V.view (space_of blocks.old)).array (all_blocks s h.driver (Group g ls)) (Group g ls) → IfErr result (λ stop. refusal_of stop ≡ None) }
-    ensures sound { IfOk result AreSound }
+    ensures sound { IfOk result IsSoundTree }
     ensures alike { V.Alike (space_of blocks.old) (space_of blocks.new) }
     ensures stands { (IsErrOf result TreeStop.Failed → ⊥) → V.Stands (space_of blocks.new) }
     ensures listed { OnOk result ((met : List Block) × Keeps V.view blocks.new met) }

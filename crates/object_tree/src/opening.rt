@@ -14,7 +14,7 @@ ghost use Rattle.object_model.specs.Tree.{AreOrdered};
 ghost use Rattle.tree_nodes.specs.Entries.{LacksLink, object_count};
 ghost use Rattle.tree_nodes.specs.Shown.{Keyed, KeyedLinks};
 ghost use Rattle.object_tree.specs.KValues.{ks_of_values};
-ghost use Rattle.object_tree.specs.Sound.{AreSound};
+ghost use Rattle.object_tree.specs.Sound.{IsSoundTree};
 ghost use Rattle.object_tree.specs.Grown.{Grows, Adds, LinksAscend, AreOpened, IsOpenedAt, IsBareGroup, IsGroupRefused};
 
 use crate::growing::{add, table_of};
@@ -45,11 +45,11 @@ fn open_object<V: Space>(
     requires lacks { LacksLink tree.old group name }
     requires ordered { LinksAscend tree.old group.key }
     requires few { object_count tree.old ≤ 65536 }
-    requires sound { AreSound tree.old }
+    requires sound { IsSoundTree tree.old }
     ensures opened { OnOk result ((t : Keyed) × Adds tree.old tree.new group.key name t
         × (IsTrue V.tells → (met : List Block) → Keeps V.view blocks.old met → (u : Full) × IsOpenedAt (V.view (space_of blocks.old)).array (ks_of_values ks) levels (Header at) t u × Keeps V.view blocks.new (met ++ blocks_of u))) }
     ensures few { OnOk result (object_count tree.new ≤ 65536) }
-    ensures sound { OnOk result (AreSound tree.new) }
+    ensures sound { OnOk result (IsSoundTree tree.new) }
     ensures refused { IsTrue V.tells → IfErr result (λ stop. (met : List Block) (own : Option (List ℕ)) → Keeps V.view blocks.old met
         → IfSome (refusal_of stop) (IsObjectRefused (V.view (space_of blocks.old)).array (bounds_of (V.view (space_of blocks.old)) own) (ks_of_values ks) levels (object_count tree.old) met at)) }
     ensures alike { V.Alike (space_of blocks.old) (space_of blocks.new) }
@@ -94,11 +94,11 @@ fn open_link<V: Space>(
     requires lacks { LacksLink tree.old group link.name }
     requires ordered { LinksAscend tree.old group.key }
     requires few { object_count tree.old ≤ 65536 }
-    requires sound { AreSound tree.old }
+    requires sound { IsSoundTree tree.old }
     ensures opened { OnOk result ((t : Keyed) × Adds tree.old tree.new group.key link.name t
         × (IsTrue V.tells → (met : List Block) → Keeps V.view blocks.old met → (u : Full) × IsOpenedAt (V.view (space_of blocks.old)).array (ks_of_values ks) levels (target_of link.target) t u × Keeps V.view blocks.new (met ++ blocks_of u))) }
     ensures few { OnOk result (object_count tree.new ≤ 65536) }
-    ensures sound { OnOk result (AreSound tree.new) }
+    ensures sound { OnOk result (IsSoundTree tree.new) }
     ensures refused { IsTrue V.tells → IfErr result (λ stop. (met : List Block) (own : Option (List ℕ)) → Keeps V.view blocks.old met
         → IfSome (refusal_of stop) (IsTargetRefused (IsObjectRefused (V.view (space_of blocks.old)).array (bounds_of (V.view (space_of blocks.old)) own) (ks_of_values ks) levels) (object_count tree.old) met (target_of link.target))) }
     ensures alike { V.Alike (space_of blocks.old) (space_of blocks.new) }
@@ -134,12 +134,12 @@ fn open_each<V: Space>(
     requires listed { (met : List Block) × Keeps V.view blocks.old met }
     requires bare { IsBareGroup tree.old group.key }
     requires few { object_count tree.old ≤ 65536 }
-    requires sound { AreSound tree.old }
+    requires sound { IsSoundTree tree.old }
     requires ordered { AreOrdered (map (λ l. l.name) links.items) }
     ensures opened { OnOk result ((kls : KeyedLinks) × Grows tree.old tree.new group.key kls
         × (IsTrue V.tells → (met : List Block) → Keeps V.view blocks.old met → (ls : FullLinks) × AreOpened (V.view (space_of blocks.old)).array (ks_of_values ks) levels kls ls × (founds ls ≡ map found_of links.items) × Keeps V.view blocks.new (met ++ blocks_in ls))) }
     ensures few { OnOk result (object_count tree.new ≤ 65536) }
-    ensures sound { OnOk result (AreSound tree.new) }
+    ensures sound { OnOk result (IsSoundTree tree.new) }
     ensures refused { IsTrue V.tells → IfErr result (λ stop. (met : List Block) (own : Option (List ℕ)) → Keeps V.view blocks.old met
         → IfSome (refusal_of stop) (AreLinksRefused (IsObjectRefused (V.view (space_of blocks.old)).array (bounds_of (V.view (space_of blocks.old)) own) (ks_of_values ks) levels) (V.view (space_of blocks.old)).array (ks_of_values ks) (object_count tree.old) met (map found_of links.items))) }
     ensures alike { V.Alike (space_of blocks.old) (space_of blocks.new) }
@@ -173,12 +173,12 @@ pub(crate) fn open_links<V: Space>(
     requires listed { (met : List Block) × Keeps V.view blocks.old met }
     requires bare { IsBareGroup tree.old group.key }
     requires few { object_count tree.old ≤ 65536 }
-    requires sound { AreSound tree.old }
+    requires sound { IsSoundTree tree.old }
     ensures opened { OnOk result ((kls : KeyedLinks) × Grows tree.old tree.new group.key kls
         × (IsTrue V.tells → (met : List Block) → Keeps V.view blocks.old met → (index : List Block) × (ls : FullLinks) × HasLinks (V.view (space_of blocks.old)).array (ks_of_values ks) tree_at heap_at (founds ls) index
         × IsSmallHeap (V.view (space_of blocks.old)).array heap_at × AreOpened (V.view (space_of blocks.old)).array (ks_of_values ks) levels kls ls × Keeps V.view blocks.new (met ++ (index ++ blocks_in ls)))) }
     ensures few { OnOk result (object_count tree.new ≤ 65536) }
-    ensures sound { OnOk result (AreSound tree.new) }
+    ensures sound { OnOk result (IsSoundTree tree.new) }
     ensures refused { IsTrue V.tells → IfErr result (λ stop. (met : List Block) (own : Option (List ℕ)) → Keeps V.view blocks.old met
         → IfSome (refusal_of stop) (IsGroupRefused (V.view (space_of blocks.old)).array (bounds_of (V.view (space_of blocks.old)) own) (ks_of_values ks) levels (object_count tree.old) met tree_at heap_at)) }
     ensures alike { V.Alike (space_of blocks.old) (space_of blocks.new) }

@@ -11,7 +11,7 @@ use Rattle.tree_nodes.specs.Shown.{single}
 use Rattle.tree_nodes.specs.Entries.{LacksLink, object_count}
 use Rattle.object_tree.specs.Grown.{LinksAscend}
 use Rattle.object_tree.specs.KValues.{ks_of_values}
-use Rattle.object_tree.specs.Sound.{AreSound}
+use Rattle.object_tree.specs.Sound.{IsSoundTree}
 use Rattle.object_tree.proofs.Sounds.{sound_insert}
 use Rattle.object_tree.proofs.Growth.{grows_none, grows_more, last_link, adds_leaf}
 use Rattle.object_tree.proofs.SoFar.{lacks_link, so_far_none, so_far_more, refused_next, names_more, ascend_link}
@@ -142,7 +142,7 @@ open_link-returns-in-Ok-clause-sound g t c =
 
 pub open_object-open_links-requires : goal.open_object-open_links-requires
 open_object-open_links-requires g t c κs within =
-    let sound : AreSound c.add.new.tree = sound_insert c.args.tree.now c.add.new.tree c.args.group c.args.name c.in-Ok-add.id.key c.in-Ok.node c.requires.lacks c.requires.ordered c.in-Ok-add.ensures.added c.in-Ok.ensures.sound c.requires.sound in
+    let sound : IsSoundTree c.add.new.tree = sound_insert c.args.tree.now c.add.new.tree c.args.group c.args.name c.in-Ok-add.id.key c.in-Ok.node c.requires.lacks c.requires.ordered c.in-Ok-add.ensures.added c.in-Ok.ensures.sound c.requires.sound in
     search rules
 
 pub open_object-returns-in-None-clause-sound : goal.open_object-returns-in-None-clause-sound
