@@ -1,15 +1,13 @@
 -- A tree that grows link by link, in the order of names.
-use Rattle.std.proofs.Common.{◌≡◌, ◌≢◌, ◌⊎◌, ℕ, ◌+◌, ◌≤◌, max, true, false, cond, List, [], ◌∷◌, ◌++◌, Option, Some, None, refl, sym, ◌∙◌, ap, subst, arith, inl, inr, IsTrue}
-use Rattle.std.proofs.lemmas.List.{append_assoc, append-nil}
-use Rattle.object_model.specs.Tree.{Tree, Links, Empty, Link, Group, Leaf, Name, name_lt, names, insert, find, AreOrdered}
+use Rattle.std.proofs.Common.{◌≡◌, ◌≢◌, ◌⊎◌, ℕ, ◌+◌, true, false, cond, List, [], ◌∷◌, ◌++◌, Option, Some, None, refl, sym, ◌∙◌, ap, subst, arith, inl, inr}
+use Rattle.object_model.specs.Tree.{Tree, Links, Empty, Link, Group, Leaf, Name, name_lt, names, insert, AreOrdered}
 use Rattle.object_model.proofs.OrderLemmas.{lt_trans}
 use Rattle.tree_nodes.specs.declared.node.Node.{Node}
 use Rattle.tree_nodes.specs.declared.node.NodeId.{NodeId}
-use Rattle.tree_nodes.specs.declared.node.ChildLink.{ChildLink}
 use Rattle.tree_nodes.specs.declared.tree.ObjectTree.{ObjectTree}
-use Rattle.tree_nodes.specs.Nodes.{Kept, bare, is_group, objects_at, child_link, link_names, find_link, insert_link}
+use Rattle.tree_nodes.specs.Nodes.{Kept, bare, child_link, link_names, find_link, insert_link}
 use Rattle.tree_nodes.specs.Entries.{entry_of, object_count, LacksLink, Inserts}
-use Rattle.tree_nodes.specs.Shown.{Placed, Keyed, KeyedLinks, key_of, single, child_links, objects_of, objects_below, HasKey, HasKeyBelow, AreDistinct, AreDistinctBelow, AreKept, AreKeptBelow}
+use Rattle.tree_nodes.specs.Shown.{Keyed, KeyedLinks, single, child_links, HasKey, HasKeyBelow, AreKept, AreKeptBelow}
 use Rattle.tree_nodes.proofs.PlaceLemmas.{lt_asym, lt_not_same}
 use Rattle.tree_nodes.proofs.EditLemmas.{kept_same_below, own_key}
 use Rattle.tree_nodes.proofs.ChangeLemmas.{key-single, names-links, links-insert, kept-insert, inserted_key, distinct-insert, objects-insert, kept-single, has-single, distinct-single, objects-single}

@@ -1,8 +1,8 @@
 -- What was read of a link, of all links of a group and of an object, put together.
-use Rattle.std.proofs.Common.{◌≡◌, ◌⊎◌, ℕ, ◌+◌, ◌-◌, ◌≤◌, Bool, List, [], ◌∷◌, ◌++◌, map, Option, Some, None, Result, Ok, Err, OnOk, IfErr, IfSome, refl, sym, ◌∙◌, ap, subst, arith, inl, inr, IsTrue}
+use Rattle.std.proofs.Common.{◌≡◌, ℕ, ◌+◌, ◌-◌, ◌≤◌, Bool, List, [], ◌∷◌, ◌++◌, map, Option, Some, Result, Ok, Err, OnOk, IfErr, IfSome, refl, sym, ap, subst, inl, inr, IsTrue}
 use Rattle.std.proofs.lemmas.List.{append_assoc}
 use Rattle.outside.specs.Array.{Array}
-use Rattle.outside.specs.Blocks.{Block, Bounds}
+use Rattle.outside.specs.Blocks.{Block}
 use Rattle.outside.specs.Space.{SpaceView, bounds_of}
 use Rattle.block_space.specs.Blocks.{Keeps}
 use Rattle.block_space.specs.declared.blocks.Blocks.{Blocks}
@@ -13,7 +13,6 @@ use Rattle.object_model.specs.Tree.{Group, Name, AreOrdered}
 use Rattle.file_model.specs.Groups.{Ks, Found, Target, Header, HasLinks}
 use Rattle.file_model.specs.Holds.{Full, FullLinks, founds, blocks_in, blocks_of}
 use Rattle.file_model.specs.Limits.{IsSmallHeap}
-use Rattle.file_model.specs.Refusals.{Refusal}
 use Rattle.file_model.specs.RefusedGroups.{IsTableRefused, names_of}
 use Rattle.file_model.specs.RefusedTree.{AreLinksRefused, IsObjectRefused}
 use Rattle.group_reader.specs.Links.{links_of}

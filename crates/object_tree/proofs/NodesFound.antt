@@ -1,6 +1,5 @@
 -- What was found where a header is makes a node.
-use Rattle.std.proofs.Common.{◌≡◌, ℕ, ◌≤◌, List, [], ◌∷◌, ◌++◌, length, Option, Result, Ok, Err, IfOk, IfErr, IfSome, refl, sym, ◌∙◌, ap, subst}
-use Rattle.dtype.specs.Types.{size_of}
+use Rattle.std.proofs.Common.{◌≡◌, ℕ, ◌≤◌, List, ◌++◌, Option, Result, Ok, Err, IfOk, IfErr, IfSome, refl, sym, ap, subst}
 use Rattle.dtype.specs.declared.types.ElemType.{ElemType}
 use Rattle.dtype.specs.declared.types.Shape.{Shape}
 use Rattle.header_codec.specs.declared.types.Fill.{Fill}
@@ -13,10 +12,9 @@ use Rattle.block_space.specs.Blocks.{Keeps}
 use Rattle.block_space.specs.declared.blocks.Blocks.{Blocks}
 use Rattle.outside.specs.Blocks.{Block, Bounds}
 use Rattle.file_model.specs.Headers.{Part, IsHeader, header_blocks}
-use Rattle.file_model.specs.Objects.{DataInfo, fill_bytes}
 use Rattle.file_model.specs.Groups.{Ks}
 use Rattle.file_model.specs.Chunks.{Chunk, IsStoredBy, elements_of}
-use Rattle.file_model.specs.Holds.{DataAt, OtherAt, LeafAt, DataLeaf, SoftLeaf, OtherLeaf, Unsupported, Later}
+use Rattle.file_model.specs.Holds.{DataLeaf, OtherLeaf, Unsupported, Later}
 use Rattle.file_model.specs.Limits.{most_header, header_bytes, IsShort}
 use Rattle.file_model.specs.Refusals.{Refusal, IsHeaderRefused}
 use Rattle.file_model.specs.RefusedChunks.{IsStorageRefused}
@@ -33,7 +31,7 @@ use Rattle.header_reader.specs.declared.reading.Header.{Header}
 use Rattle.header_reader.specs.declared.reading.Header.TheVariants as header
 use Rattle.tree_nodes.specs.declared.node.Node.{Node}
 use Rattle.tree_nodes.specs.declared.node.Node.TheVariants as node
-use Rattle.object_tree.specs.Grown.{IsLeafFound, IsNodeFound}
+use Rattle.object_tree.specs.Grown.{IsNodeFound}
 
 pub short_of : (b : Array) (at : ℕ) (p : Prefix) (ps : List Part) → IsHeader b at p ps → header_bytes at p ps ≤ most_header → IsShort b at
 short_of b at p ps h short q qs k =

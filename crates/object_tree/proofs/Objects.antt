@@ -1,30 +1,28 @@
 -- One object that was read, with all below it.
-use Rattle.std.proofs.Common.{◌≡◌, ◌≢◌, ◌⊎◌, ℕ, zero, suc, ◌+◌, ◌-◌, ◌≤◌, true, false, cond, List, [], ◌∷◌, ◌++◌, Option, Some, None, Result, Ok, Err, IfErr, IfSome, refl, sym, ◌∙◌, ap, subst, arith, inl, inr}
+use Rattle.std.proofs.Common.{◌≡◌, ◌≢◌, ℕ, zero, suc, ◌+◌, ◌-◌, ◌≤◌, true, List, [], ◌++◌, Option, Some, None, IfSome, refl, sym, ◌∙◌, ap, subst, arith, inl, inr}
 use Rattle.std.specs.Prelude.{unwrap_or}
 use Rattle.std.proofs.lemmas.List.{append_assoc, append-nil}
 use Rattle.outside.specs.Array.{Array}
 use Rattle.outside.specs.Blocks.{Block, Bounds}
-use Rattle.outside.specs.Space.{SpaceView, bounds_of}
+use Rattle.outside.specs.Space.{SpaceView}
 use Rattle.block_space.specs.Blocks.{Keeps}
 use Rattle.block_space.specs.declared.blocks.Blocks.{Blocks}
 use Rattle.block_reader.specs.declared.stop.TreeStop.{TreeStop}
 use Rattle.block_reader.specs.Stops.{refusal_of}
 use Rattle.block_reader.proofs.Stopped.{if_some}
-use Rattle.header_codec.specs.declared.types.Prefix.{Prefix}
 use Rattle.object_model.specs.Tree.{Group, Leaf, Name}
-use Rattle.file_model.specs.Headers.{Part, IsHeader, header_blocks}
-use Rattle.file_model.specs.Groups.{Ks, Found, Target, Header, Text, HasLinks}
+use Rattle.file_model.specs.Groups.{Ks, Target, Header, Text, HasLinks}
 use Rattle.file_model.specs.Holds.{GroupAt, LeafAt, DataLeaf, SoftLeaf, OtherLeaf, Full, FullLinks, IsGroup, founds, blocks_in, blocks_of}
-use Rattle.file_model.specs.Limits.{IsSmallHeap, leaf_objects, depth_to}
+use Rattle.file_model.specs.Limits.{IsSmallHeap, leaf_objects}
 use Rattle.file_model.specs.Refusals.{Refusal}
 use Rattle.file_model.specs.RefusedGroups.{IsTableRefused}
-use Rattle.file_model.specs.RefusedTree.{RefusedObject, AreLinksRefused, IsRefusedWith, InTable, InLinks, IsObjectRefused}
+use Rattle.file_model.specs.RefusedTree.{AreLinksRefused, IsRefusedWith, InTable, InLinks, IsObjectRefused}
 use Rattle.tree_nodes.specs.declared.node.Node.{Node}
 use Rattle.tree_nodes.specs.declared.node.Node.TheVariants as node
 use Rattle.tree_nodes.specs.declared.tree.ObjectTree.{ObjectTree}
-use Rattle.tree_nodes.specs.Nodes.{Kept, bare, is_group, objects_at, child_link, insert_link}
-use Rattle.tree_nodes.specs.Entries.{entry_of, object_count, Inserts}
-use Rattle.tree_nodes.specs.Shown.{Placed, Keyed, KeyedLinks, single, HasKey, HasKeyBelow}
+use Rattle.tree_nodes.specs.Nodes.{Kept, bare, is_group, objects_at}
+use Rattle.tree_nodes.specs.Entries.{entry_of, Inserts}
+use Rattle.tree_nodes.specs.Shown.{KeyedLinks, single, HasKey, HasKeyBelow}
 use Rattle.object_tree.specs.Opened.{IsGroupNode, IsLeafNode, Matches}
 use Rattle.object_tree.specs.Grown.{Grows, Adds, IsBareGroup, IsLeafFound, IsNodeFound, AreOpened, IsOpenedAt, IsGroupRefused, table_of}
 use Rattle.object_tree.proofs.NodesFound.{short_of}

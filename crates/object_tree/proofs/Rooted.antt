@@ -1,32 +1,29 @@
 -- The superblock and the root of a file, put together with all below it.
-use Rattle.std.proofs.Common.{◌≡◌, ◌≢◌, ◌⊎◌, ℕ, suc, ◌+◌, ◌≤◌, ◌<◌, min, max, true, false, Bool, IsTrue, List, [], ◌∷◌, ◌++◌, length, map, Option, Some, None, is_some, Result, Ok, Err, OnOk, IfOk, IfErr, IfSome, refl, sym, ◌∙◌, ap, subst, arith, inl, inr, lit<}
+use Rattle.std.proofs.Common.{◌≡◌, ℕ, suc, ◌≤◌, ◌<◌, min, false, Bool, IsTrue, List, [], ◌∷◌, ◌++◌, map, Option, Some, None, Result, Ok, Err, IfOk, IfErr, IfSome, refl, sym, ◌∙◌, ap, subst, arith, inl, inr, lit<}
 use Rattle.std.specs.Prelude.{unwrap_or}
 use Rattle.std.specs.List.{Contains}
-use Rattle.std.proofs.lemmas.List.{append_assoc, append-nil}
+use Rattle.std.proofs.lemmas.List.{append_assoc}
 use Rattle.std.proofs.lemmas.List.FromFn.{length-map-range_with_len}
-use Rattle.outside.specs.Array.{Array, bytes_of}
-use Rattle.outside.specs.Blocks.{Block, Bounds, AllSome, AllApart, AreKept, most_blocks}
+use Rattle.outside.specs.Array.{Array}
+use Rattle.outside.specs.Blocks.{Block, Bounds, AllSome, AreKept}
 use Rattle.outside.specs.Space.{SpaceView, bounds_of}
 use Rattle.h5_base.specs.declared.extent.MemClass.TheVariants as class
 use Rattle.h5_base.specs.declared.kinds.BlockKind.TheVariants as kinds
-use Rattle.h5_base.specs.declared.kinds.What.{What}
 use Rattle.h5_base.specs.declared.kinds.What.TheVariants as what
 use Rattle.block_space.specs.Blocks.{Keeps}
 use Rattle.block_space.specs.declared.blocks.Blocks.{Blocks}
 use Rattle.block_reader.specs.declared.stop.TreeStop.{TreeStop}
-use Rattle.block_reader.specs.declared.stop.TreeStop.TheVariants as stops
 use Rattle.block_reader.specs.Stops.{refusal_of}
 use Rattle.block_reader.proofs.Stopped.{if_some}
 use Rattle.super_codec.specs.Super.{Spells, super_len, stop_of}
 use Rattle.super_codec.specs.declared.superblock.Superblock.{Superblock}
 use Rattle.super_codec.specs.declared.superblock.SuperStop.{SuperStop}
-use Rattle.super_codec.specs.declared.superblock.SuperStop.TheVariants as super_stop
-use Rattle.object_model.specs.Tree.{Group, Leaf, Empty, Link, Name, names, IsOrdered, AreOrderedBelow, AreOrdered}
-use Rattle.file_model.specs.Headers.{Met, header_blocks, messages_of}
-use Rattle.file_model.specs.Objects.{has, IsGroupHeader}
-use Rattle.file_model.specs.Groups.{Ks, Found, HasLinks}
-use Rattle.file_model.specs.Holds.{GroupAt, Full, FullLinks, IsGroup, IsHeld, AreHeld, founds, blocks_in, blocks_of, ks_of, HasDriver, super_bytes_of, HoldsFull}
-use Rattle.file_model.specs.Limits.{IsSmallHeap, IsWithinLimits, objects_in}
+use Rattle.object_model.specs.Tree.{Group, Leaf, Empty, Link, names, IsOrdered, AreOrderedBelow, AreOrdered}
+use Rattle.file_model.specs.Headers.{Met, messages_of}
+use Rattle.file_model.specs.Objects.{has}
+use Rattle.file_model.specs.Groups.{Ks, HasLinks}
+use Rattle.file_model.specs.Holds.{GroupAt, Full, FullLinks, IsGroup, IsHeld, AreHeld, founds, blocks_in, ks_of, HasDriver, super_bytes_of, HoldsFull}
+use Rattle.file_model.specs.Limits.{IsSmallHeap, IsWithinLimits}
 use Rattle.file_model.specs.Laws.{all_blocks}
 use Rattle.file_model.specs.Refusals.{Refusal, Unsupported, IsBlockRefused, IsHeaderRefused}
 use Rattle.file_model.specs.RefusedGroups.{IsTableRefused}
@@ -42,7 +39,7 @@ use Rattle.tree_nodes.specs.declared.node.Node.{Node}
 use Rattle.tree_nodes.specs.declared.node.Node.TheVariants as node
 use Rattle.tree_nodes.specs.declared.tree.ObjectTree.{ObjectTree}
 use Rattle.tree_nodes.specs.Entries.{superblock_of, root_of, object_count}
-use Rattle.tree_nodes.specs.Shown.{Placed, Keyed, KeyedLinks, Shows}
+use Rattle.tree_nodes.specs.Shown.{Keyed, KeyedLinks, Shows}
 use Rattle.object_tree.specs.Opened.{Matches, MatchesLinks, IsOpened}
 use Rattle.object_tree.specs.Grown.{AreOpened, IsGroupRefused, HasRoot, table_of_kind}
 use Rattle.object_tree.proofs.NodesFound.{short_of}

@@ -1,8 +1,8 @@
 -- The links of a group that were read so far, each with all below it.
-use Rattle.std.proofs.Common.{◌≡◌, ◌≢◌, ◌⊎◌, ℕ, ◌+◌, ◌≤◌, max, true, false, Bool, List, [], ◌∷◌, ◌++◌, map, Option, Some, None, IfSome, refl, sym, ◌∙◌, ap, subst, arith, inl, inr, IsTrue}
+use Rattle.std.proofs.Common.{◌≡◌, ℕ, ◌+◌, ◌≤◌, List, [], ◌∷◌, ◌++◌, map, Option, IfSome, refl, sym, ◌∙◌, ap, subst, arith, inl, inr}
 use Rattle.std.proofs.lemmas.List.{append_assoc, append-nil, map-append}
 use Rattle.outside.specs.Array.{Array}
-use Rattle.outside.specs.Blocks.{Block, Bounds}
+use Rattle.outside.specs.Blocks.{Block}
 use Rattle.outside.specs.Space.{SpaceView, bounds_of}
 use Rattle.block_space.specs.Blocks.{Keeps}
 use Rattle.block_space.specs.declared.blocks.Blocks.{Blocks}
@@ -10,7 +10,7 @@ use Rattle.block_reader.specs.declared.stop.TreeStop.{TreeStop}
 use Rattle.block_reader.specs.Stops.{refusal_of}
 use Rattle.block_reader.proofs.Stopped.{if_some}
 use Rattle.object_model.specs.Tree.{Empty, Link, Group, Leaf, Name, names, AreOrdered}
-use Rattle.file_model.specs.Groups.{Ks, Found, Target, Header, Text}
+use Rattle.file_model.specs.Groups.{Ks, Found}
 use Rattle.file_model.specs.Holds.{LeafAt, DataLeaf, SoftLeaf, OtherLeaf, Full, FullLinks, AreHeld, IsHeld, founds, blocks_in, blocks_of, target_of as full_target}
 use Rattle.file_model.specs.Limits.{Fits, AllFit, depth_in, depth_to, objects_of as full_objects, objects_in, leaf_objects}
 use Rattle.file_model.specs.Refusals.{Refusal}
@@ -23,10 +23,10 @@ use Rattle.tree_nodes.specs.declared.node.NodeId.{NodeId}
 use Rattle.tree_nodes.specs.declared.tree.ObjectTree.{ObjectTree}
 use Rattle.tree_nodes.specs.Nodes.{objects_at}
 use Rattle.tree_nodes.specs.Entries.{object_count, LacksLink}
-use Rattle.tree_nodes.specs.Shown.{Placed, Keyed, KeyedLinks, objects_of, objects_below}
-use Rattle.object_tree.specs.Opened.{IsGroupNode, IsDataNode, IsLeafNode, Matches, MatchesLinks}
-use Rattle.object_tree.specs.Grown.{Grows, Adds, LinksAscend, IsBareGroup, AreOpened, IsOpenedAt, IsGroupRefused}
-use Rattle.object_tree.proofs.Growth.{last_link, names-last, grows_more, lacks_next, ascend_next}
+use Rattle.tree_nodes.specs.Shown.{Keyed, KeyedLinks, objects_of, objects_below}
+use Rattle.object_tree.specs.Opened.{IsGroupNode, IsLeafNode, Matches, MatchesLinks}
+use Rattle.object_tree.specs.Grown.{Grows, LinksAscend, IsBareGroup, AreOpened, IsOpenedAt}
+use Rattle.object_tree.proofs.Growth.{last_link, names-last, lacks_next, ascend_next}
 
 -- the names of links that were read
 abbrev pub names_in : List FoundLink → List Name

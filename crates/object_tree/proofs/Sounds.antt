@@ -75,10 +75,10 @@ stays old new group name key n lacks ascend ins id has =
     elim (eqb_tells id.key group.key) [
       | inl same ↦ some_there new id _ (ap (entry_of new) same.1 ∙ ins.linked lacks.0 lacks.1 (ascend lacks.0 lacks.1))
       | inr other ↦
-        elim (eqb_tells id.key key) [
-          | inl same ↦ some_there new id _ (ap (entry_of new) same.1 ∙ ins.made)
-          | inr more ↦ subst IsSome (sym (ins.others id.key other.1 more.1)) has
-        ]
+          elim (eqb_tells id.key key) [
+            | inl same ↦ some_there new id _ (ap (entry_of new) same.1 ∙ ins.made)
+            | inr more ↦ subst IsSome (sym (ins.others id.key other.1 more.1)) has
+          ]
     ]
 
 entry_stays : (old new : ObjectTree) (e : Kept) → ((id : NodeId) → Has old id → Has new id) → IsSoundEntry old e → IsSoundEntry new e
@@ -99,9 +99,9 @@ sound_insert old new group name key n lacks ascend ins sound before =
           elim (eqb_tells k group.key) [
             | inl same ↦ entry_as new _ e (sym (ins.linked g lacks.1 (ascend g lacks.1)) ∙ sym (ap (entry_of new) same.1) ∙ is) grown
             | inr other ↦
-              elim (eqb_tells k key) [
-                | inl same ↦ entry_as new (bare n) e (sym ins.made ∙ sym (ap (entry_of new) same.1) ∙ is) (bare_sound new n sound)
-                | inr more ↦ entry_stays old new e stay (before.entries k e (sym (ins.others k other.1 more.1) ∙ is))
-              ]
+                elim (eqb_tells k key) [
+                  | inl same ↦ entry_as new (bare n) e (sym ins.made ∙ sym (ap (entry_of new) same.1) ∙ is) (bare_sound new n sound)
+                  | inr more ↦ entry_stays old new e stay (before.entries k e (sym (ins.others k other.1 more.1) ∙ is))
+                ]
           ];
     }

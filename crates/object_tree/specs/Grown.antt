@@ -1,15 +1,15 @@
 -- How a tree grows while a file is opened: by the links of one group, with all below them.
 -- Cited by the steps of `open_tree`.
-use Rattle.std.specs.Prelude.{◌≡◌, ◌≢◌, ◌⊎◌, true, ℕ, ◌+◌, ◌≤◌, List, [], ◌∷◌, ◌++◌, Option, Some, None}
+use Rattle.std.specs.Prelude.{◌≡◌, ◌≢◌, ◌⊎◌, true, ℕ, ◌+◌, ◌≤◌, List, [], ◌++◌, Option, Some, None}
 use Rattle.outside.specs.Array.{Array}
 use Rattle.outside.specs.Blocks.{Block, Bounds}
-use Rattle.object_model.specs.Tree.{Name, Empty, Link, AreOrdered}
+use Rattle.object_model.specs.Tree.{Name, AreOrdered}
 use Rattle.header_codec.specs.declared.types.Prefix.{Prefix}
 use Rattle.file_model.specs.Headers.{Part, IsHeader, header_blocks, messages_of}
 use Rattle.file_model.specs.Objects.{IsGroupHeader}
 use Rattle.file_model.specs.Groups.{Ks, Found, Target, Header, HasLinks}
-use Rattle.file_model.specs.Holds.{LeafAt, Full, FullLinks, IsHeld, AreHeld, IsLeafHeld, founds, leaf_target, leaf_blocks, target_of as full_target, blocks_of, blocks_in}
-use Rattle.file_model.specs.Limits.{most_objects, most_header, header_bytes, IsSmallHeap, LeafFits, Fits, AllFit, depth_to, depth_in}
+use Rattle.file_model.specs.Holds.{LeafAt, Full, FullLinks, IsHeld, AreHeld, IsLeafHeld, leaf_target, leaf_blocks, target_of as full_target}
+use Rattle.file_model.specs.Limits.{most_header, header_bytes, LeafFits, Fits, AllFit, depth_to, depth_in}
 use Rattle.file_model.specs.Refusals.{Refusal}
 use Rattle.file_model.specs.RefusedGroups.{IsTableRefused}
 use Rattle.file_model.specs.RefusedTree.{IsObjectRefused, AreLinksRefused}

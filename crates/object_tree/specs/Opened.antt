@@ -1,13 +1,12 @@
 -- The tree that a file's bytes hold, as the program keeps it: each node with what the file holds there.
 -- Cited by `open_tree`, and by whatever works on an opened file.
-use Rattle.std.specs.Prelude.{◌≡◌, ℕ, List}
+use Rattle.std.specs.Prelude.{◌≡◌}
 use Rattle.dtype.specs.Types.{size_of}
 use Rattle.outside.specs.Array.{Array}
-use Rattle.outside.specs.Blocks.{Block, Bounds}
-use Rattle.super_codec.specs.declared.superblock.Superblock.{Superblock}
+use Rattle.outside.specs.Blocks.{Bounds}
 use Rattle.object_model.specs.Tree.{Group, Leaf, Empty, Link}
 use Rattle.file_model.specs.Objects.{fill_bytes}
-use Rattle.file_model.specs.Holds.{GroupAt, DataAt, OtherAt, LeafAt, DataLeaf, SoftLeaf, OtherLeaf, Full, FullLinks, HoldsFull}
+use Rattle.file_model.specs.Holds.{GroupAt, DataAt, LeafAt, DataLeaf, SoftLeaf, OtherLeaf, Full, FullLinks, HoldsFull}
 use Rattle.file_model.specs.Limits.{IsWithinLimits}
 use Rattle.file_model.specs.Laws.{all_blocks}
 use Rattle.tree_nodes.specs.declared.node.Node.{Node}

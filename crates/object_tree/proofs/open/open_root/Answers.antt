@@ -1,5 +1,5 @@
 use Rattle.std.proofs.Common.{ap, sym, ◌∙◌, [], refl}
-use Rattle.outside.specs.Space.{SpaceView, bounds_of}
+use Rattle.outside.specs.Space.{bounds_of}
 use Rattle.std.proofs.Common.{None, ◌∷◌}
 use Rattle.block_space.specs.Blocks.{space_of}
 use Rattle.file_model.specs.RefusedTree.{super_block}

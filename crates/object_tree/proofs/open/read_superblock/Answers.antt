@@ -1,5 +1,4 @@
-use Rattle.std.proofs.Common.{rules, arith, ◌≡◌, [], None, min, ap, ◌∙◌, sym, Err}
-use Rattle.outside.specs.Array.{bytes_of}
+use Rattle.std.proofs.Common.{rules, ◌≡◌, [], None, ap, ◌∙◌, sym, Err}
 use Rattle.outside.specs.Space.{bounds_of}
 use Rattle.block_space.specs.Blocks.{space_of}
 use Rattle.super_codec.specs.Super.{Spells}

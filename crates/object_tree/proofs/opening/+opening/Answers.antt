@@ -1,4 +1,4 @@
-use Rattle.std.proofs.Common.{rules, ◌≡◌, ◌++◌, ◌∷◌, [], ap, refl, sym, ◌∙◌, arith, List, map, ◌-◌, ◌+◌}
+use Rattle.std.proofs.Common.{rules, ◌++◌, ◌∷◌, [], ap, refl, sym, ◌∙◌, arith, map, ◌-◌, ◌+◌}
 use Rattle.std.proofs.lemmas.List.{append_assoc}
 use Rattle.outside.specs.Space.{SpaceView}
 use Rattle.block_space.specs.Blocks.{space_of}

@@ -1,4 +1,4 @@
-use Rattle.std.proofs.Common.{◌≡◌, ◌+◌, ◌*◌, ◌≤◌, ◌++◌, ℕ, List, map, IsTrue}
+use Rattle.std.proofs.Common.{◌≡◌, ◌+◌, ◌*◌, ◌≤◌, ◌++◌, List, map, IsTrue}
 use Rattle.outside.specs.Blocks.{Block}
 use Rattle.block_space.specs.Blocks.{Keeps, space_of}
 use Rattle.file_model.specs.Holds.{FullLinks, founds, blocks_in}
