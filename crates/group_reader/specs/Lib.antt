@@ -1,4 +1,3 @@
 pub mod Entries
 pub mod Links
-pub mod Memory
 pub mod Reading

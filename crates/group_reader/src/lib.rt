@@ -15,8 +15,3 @@ mod text;
 
 pub use link::{FoundLink, LinkTarget};
 pub use links::read_links;
-
-#[cfg(test)]
-mod memory;
-#[cfg(test)]
-mod tests;

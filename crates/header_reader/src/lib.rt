@@ -7,8 +7,3 @@ mod reading;
 mod walk;
 
 pub use reading::{Header, read_header};
-
-#[cfg(test)]
-mod memory;
-#[cfg(test)]
-mod tests;

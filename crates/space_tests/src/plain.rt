@@ -1,47 +1,15 @@
 // A file as a space.
+use crate::files::{file_name, space_of_file};
 use crate::steps::{overwritten, raise, read, write};
-use h5_base::{Bytes, MemClass, Name};
-use mem_store::{Fail, MemStore, NamedBytes, Op, Room};
+use h5_base::MemClass;
 use outside::{Space, Store};
-use plain_space::{OpenStop, PlainSpace};
-use std::alloc::Global;
-use std::test;
-
-const AMPLE: Room = Room {
-    calls: 1000,
-    bytes: 1000,
-};
-
-// A store with the file a, of six bytes, one kind of whose calls fails the first time.
-fn store(alloc: Global, fails: Option<Op>) -> Result<MemStore, test::Fail> {
-    let mut files = Vec::new(alloc);
-    files.push(NamedBytes {
-        name: Name::new(alloc, "a")?,
-        bytes: Bytes::from_slice(alloc, b"abcdef".as_slice())?,
-    })?;
-    let mut list = Vec::new(alloc);
-    if let Some(op) = fails {
-        list.push(Fail {
-            name: Name::new(alloc, "a")?,
-            op,
-            nth: 1,
-        })?;
-    }
-    Ok(MemStore::new(alloc, files, list, AMPLE)?)
-}
+use std::test::Fail;
 
 /// Reads across the end and far behind it, a write, a raise, and the file that is left.
 #[test]
-fn a_file_is_read_and_written(rt: HostRuntime) -> Result<(), test::Fail> {
+fn a_file_is_read_and_written(rt: HostRuntime) -> Result<(), Fail> {
     let alloc = rt.alloc();
-    let mut store = store(alloc, None)?;
-    let name = Name::new(alloc, "a")?;
-    let _text = name.as_slice();
-    let id = store.file(&name)?;
-    let mut space = match PlainSpace::open(alloc, store, id) {
-        Ok(space) => space,
-        Err(_) => return Err(test::Fail::new("not opened")),
-    };
+    let mut space = space_of_file(alloc, b"abcdef".as_slice())?;
     assert_eq!(rt; space.end(MemClass::Raw), 6);
     for (at, want) in [
         (0, b"abcd".as_slice()),
@@ -57,6 +25,8 @@ fn a_file_is_read_and_written(rt: HostRuntime) -> Result<(), test::Fail> {
     write(alloc, &mut space, MemClass::Raw, 8, b"!".as_slice())?;
     space.settle()?;
     let mut store = space.into_store();
+    let name = file_name(alloc)?;
+    let _text = name.as_slice();
     let id = store.file(&name)?;
     let store = overwritten(alloc, store, id, 0, b"A".as_slice())?;
     assert_eq!(rt; store.bytes_of(&name), b"AbXYZf\0\0!".as_slice());

@@ -9,8 +9,3 @@ mod nodes;
 mod storage;
 
 pub use storage::adopt_storage;
-
-#[cfg(test)]
-mod memory;
-#[cfg(test)]
-mod tests;

@@ -1,8 +1,9 @@
-use crate::memory::MemorySpace;
-use crate::*;
+// Object headers, read in a file in memory.
+use crate::files::space_of_file;
 use block_reader::TreeStop;
 use block_space::Blocks;
 use h5_base::{BlockKind, What};
+use header_reader::{Header, read_header};
 use object_header::ObjectKind;
 use std::alloc::Global;
 use std::test::Fail;
@@ -16,6 +17,11 @@ enum Seen {
     Other,
     Stop(TreeStop),
 }
+
+// The ends of a small file, and of one with room for the largest header.
+const END: usize = 256;
+
+const FAR_END: usize = 1_100_000;
 
 // A prefix: messages and bytes of messages, both below 256.
 const EMPTY: [u8; 16] = [1, 0, 0, 0, 1, 0, 0, 0, 0, 0, 0, 0, 0, 0, 0, 0];
@@ -79,7 +85,7 @@ const ITSELF: [u8; 24] = [
 ];
 
 const PAST_END: [u8; 24] = [
-    0x10, 0, 16, 0, 0, 0, 0, 0, 0xF8, 0xFF, 0x3F, 0, 0, 0, 0, 0, 16, 0, 0, 0, 0, 0, 0, 0,
+    0x10, 0, 16, 0, 0, 0, 0, 0, 0xF8, 0, 0, 0, 0, 0, 0, 0, 16, 0, 0, 0, 0, 0, 0, 0,
 ];
 
 const MOST: [u8; 24] = [
@@ -101,8 +107,13 @@ fn shown(bytes: &'static [u8]) -> &'static [u8] {
     bytes
 }
 
-// Pieces of bytes that stand one behind the other from 0 on, and one more from 128 on.
-fn bytes_of(alloc: Global, pieces: &[&'static [u8]], next: &[u8]) -> Result<Vec<u8>, Fail> {
+// The bytes of a file of this length: pieces that stand one behind the other from 0 on, and one more from 128 on.
+fn file_of(
+    alloc: Global,
+    pieces: &[&'static [u8]],
+    next: &[u8],
+    end: usize,
+) -> Result<Vec<u8>, Fail> {
     let mut bytes = Vec::new(alloc);
     for piece in pieces {
         bytes.extend_from_slice(piece)?;
@@ -111,6 +122,7 @@ fn bytes_of(alloc: Global, pieces: &[&'static [u8]], next: &[u8]) -> Result<Vec<
         bytes.push(0)?;
     }
     bytes.extend_from_slice(next)?;
+    bytes.resize(end, 0)?;
     Ok(bytes)
 }
 
@@ -126,18 +138,17 @@ fn told(header: &Result<Header, TreeStop>) -> Seen {
     }
 }
 
-// The answer at an address of these bytes, with an empty catalogue.
-fn answer(alloc: Global, bytes: Vec<u8>, at: u64) -> Seen {
-    let mut blocks = Blocks::new(alloc, MemorySpace { bytes, faults: 0 });
+// The answer at an address of a file, with an empty catalogue.
+fn answer(alloc: Global, file: &[u8], at: u64) -> Result<Seen, Fail> {
+    let mut blocks = Blocks::new(alloc, space_of_file(alloc, file)?);
     let header = read_header(alloc, &mut blocks, at);
-    told(&header)
+    Ok(told(&header))
 }
 
 // A header of these pieces, with one more block at 128.
 #[test]
 fn headers(rt: HostRuntime) -> Result<(), Fail> {
     let alloc = rt.alloc();
-    let too_large = Seen::Stop(TreeStop::Unsupported { what: What::Header });
     for (prefix, message, next, want) in [
         (shown(&EMPTY), shown(&[]), shown(&[]), Seen::Other),
         (shown(&ONE), shown(&TABLE), shown(&[]), GROUP),
@@ -166,8 +177,6 @@ fn headers(rt: HostRuntime) -> Result<(), Fail> {
             malformed(0, BlockKind::Header),
         ),
         (shown(b"OHDR"), shown(&TABLE), shown(&[]), Seen::Later),
-        (shown(&LARGEST), shown(&[]), shown(&[]), Seen::Other),
-        (shown(&TOO_LARGE), shown(&[]), shown(&[]), too_large),
         // Continuations.
         (shown(&TWO), shown(&NEXT), shown(&TABLE), GROUP),
         (
@@ -217,13 +226,28 @@ fn headers(rt: HostRuntime) -> Result<(), Fail> {
             shown(&ONE),
             shown(&PAST_END),
             shown(&[]),
-            malformed(0x3F_FFF8, BlockKind::Header),
+            malformed(0xF8, BlockKind::Header),
         ),
-        (shown(&ONE), shown(&MOST), shown(&[]), Seen::Other),
-        (shown(&ONE), shown(&TOO_MANY), shown(&[]), too_large),
     ] {
-        let bytes = bytes_of(alloc, &[prefix, message], next)?;
-        assert_eq!(rt; answer(alloc, bytes, 0), want);
+        let file = file_of(alloc, &[prefix, message], next, END)?;
+        assert_eq!(rt; answer(alloc, file.as_slice(), 0)?, want);
+    }
+    Ok(())
+}
+
+// A header of 1,048,576 bytes or of one more, with and without a continuation.
+#[test]
+fn large_headers(rt: HostRuntime) -> Result<(), Fail> {
+    let alloc = rt.alloc();
+    let too_large = Seen::Stop(TreeStop::Unsupported { what: What::Header });
+    for (prefix, message, want) in [
+        (shown(&LARGEST), shown(&[]), Seen::Other),
+        (shown(&TOO_LARGE), shown(&[]), too_large),
+        (shown(&ONE), shown(&MOST), Seen::Other),
+        (shown(&ONE), shown(&TOO_MANY), too_large),
+    ] {
+        let file = file_of(alloc, &[prefix, message], &[], FAR_END)?;
+        assert_eq!(rt; answer(alloc, file.as_slice(), 0)?, want);
     }
     Ok(())
 }
@@ -233,8 +257,8 @@ fn headers(rt: HostRuntime) -> Result<(), Fail> {
 fn own_messages_first(rt: HostRuntime) -> Result<(), Fail> {
     let alloc = rt.alloc();
     let pieces = [shown(&FOUR), shown(&NEXT), shown(&NIL), shown(&TABLE)];
-    let bytes = bytes_of(alloc, &pieces, &OTHER_TABLE)?;
-    assert_eq!(rt; answer(alloc, bytes, 0), GROUP);
+    let file = file_of(alloc, &pieces, &OTHER_TABLE, END)?;
+    assert_eq!(rt; answer(alloc, file.as_slice(), 0)?, GROUP);
     Ok(())
 }
 
@@ -245,13 +269,14 @@ fn addresses(rt: HostRuntime) -> Result<(), Fail> {
     for (at, want) in [
         (96, GROUP),
         (200, malformed(200, BlockKind::Header)),
-        (4_194_296, malformed(4_194_296, BlockKind::Header)),
+        (248, malformed(248, BlockKind::Header)),
         (u64::MAX - 15, malformed(u64::MAX - 15, BlockKind::Header)),
         (u64::MAX - 3, malformed(u64::MAX - 3, BlockKind::Header)),
         (u64::MAX, malformed(u64::MAX, BlockKind::Header)),
     ] {
-        let bytes = bytes_of(alloc, &[shown(&[0; 96]), shown(&ONE), shown(&TABLE)], &[])?;
-        assert_eq!(rt; answer(alloc, bytes, at), want);
+        let pieces = [shown(&[0; 96]), shown(&ONE), shown(&TABLE)];
+        let file = file_of(alloc, &pieces, &[], END)?;
+        assert_eq!(rt; answer(alloc, file.as_slice(), at)?, want);
     }
     Ok(())
 }

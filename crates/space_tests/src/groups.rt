@@ -1,7 +1,8 @@
-use crate::memory::MemorySpace;
-use crate::*;
+// The links of groups, read in a file in memory.
+use crate::files::space_of_file;
 use block_reader::TreeStop;
 use block_space::Blocks;
+use group_reader::{FoundLink, LinkTarget, read_links};
 use std::alloc::Global;
 use std::test::Fail;
 
@@ -135,7 +136,7 @@ fn links_are_read(rt: HostRuntime) -> Result<(), Fail> {
         let mut bytes = vec![in alloc; 0; 4096]?;
         put(&mut bytes, &GROUP);
         put(&mut bytes, changes);
-        let mut blocks = Blocks::new(alloc, MemorySpace { bytes, faults: 0 });
+        let mut blocks = Blocks::new(alloc, space_of_file(alloc, bytes.as_slice())?);
         let links = read_links(alloc, &mut blocks, 1, 1, tree_at, 0);
         let text = told(alloc, &links)?;
         assert_eq!(rt; text.as_str(), want);
@@ -149,7 +150,7 @@ fn empty_group(rt: HostRuntime) -> Result<(), Fail> {
     let alloc = rt.alloc();
     let mut bytes = vec![in alloc; 0; 800]?;
     put(&mut bytes, &EMPTY);
-    let mut blocks = Blocks::new(alloc, MemorySpace { bytes, faults: 0 });
+    let mut blocks = Blocks::new(alloc, space_of_file(alloc, bytes.as_slice())?);
     let links = read_links(alloc, &mut blocks, 4, 16, 136, 680)?;
     assert_eq!(rt; links.len(), 0);
     Ok(())

@@ -1,8 +1,8 @@
+// The blocks of a dataset's elements, taken into the catalogue of a file in memory.
 ghost use Rattle.std.specs.Prelude.{◌↔◌, IsTrue};
 ghost use Rattle.header_codec.specs.Written.{IsLayout};
 
-use crate::adopt_storage;
-use crate::memory::MemorySpace;
+use crate::files::space_of_file;
 use block_reader::TreeStop;
 use block_space::{AdoptStop, Blocks};
 use dtype::{Dims, ElemType, Shape};
@@ -11,6 +11,10 @@ use header_codec::{Layout, is_chunk};
 use std::alloc::Global;
 use std::process::Abort;
 use std::test::Fail;
+use storage_reader::adopt_storage;
+
+// The end of the file.
+const END: usize = 2048;
 
 const ELEM: ElemType = ElemType::Int {
     size: 4,
@@ -48,8 +52,8 @@ fn append_node(bytes: &mut Vec<u8>, level: u8, numbers: &[u64], end: usize) -> R
     Ok(())
 }
 
-// What is answered for a dataset of so many elements of 4 bytes beside these nodes, from address 0 on, and whether a block
-// that begins at `probe` was taken.
+// What is answered for a dataset of so many elements of 4 bytes in a file that begins with these nodes, and whether a
+// block that begins at `probe` was taken.
 fn adopted(
     rt: &impl Abort,
     alloc: Global,
@@ -63,7 +67,8 @@ fn adopted(
     for ((level, numbers), end) in nodes.iter().zip([112, 224, 336]) {
         append_node(&mut bytes, *level, numbers, end)?;
     }
-    let mut blocks = Blocks::new(alloc, MemorySpace { bytes });
+    bytes.resize(END, 0)?;
+    let mut blocks = Blocks::new(alloc, space_of_file(alloc, bytes.as_slice())?);
     let shape = Shape {
         dims: Dims::from_slice(alloc, &[count])?,
         max: None,
@@ -76,7 +81,7 @@ fn adopted(
     Ok((answer, taken))
 }
 
-/// One block, none, and one that leaves the region.
+/// One block, none, and one that leaves the file.
 #[test]
 fn one_block(rt: HostRuntime) -> Result<(), Fail> {
     let alloc = rt.alloc();
