@@ -1,0 +1,5 @@
+pub mod Places
+pub mod Walks
+pub mod Told
+pub mod Looks
+pub mod Opened

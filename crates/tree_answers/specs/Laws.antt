@@ -1,0 +1,25 @@
+-- Laws of what the tree that the program keeps shows, and of the commands that are given.
+-- Each is the clause of a small public function of this crate.
+use Rattle.std.specs.Prelude.{◌≡◌, IsTrue, Ok}
+use Rattle.outside.specs.Array.{Array}
+use Rattle.outside.specs.Blocks.{Bounds}
+use Rattle.object_model.specs.declared.command.Command.{Command}
+use Rattle.object_model.specs.declared.answer.Answer.{Answer}
+use Rattle.object_model.specs.Step.{Plain, Reply, Gives, step}
+use Rattle.file_model.specs.Holds.{Holds}
+use Rattle.tree_nodes.specs.declared.tree.ObjectTree.{ObjectTree}
+use Rattle.object_tree.specs.Opened.{IsOpened}
+use Rattle.tree_answers.specs.Answers.{is_given, plain_stack}
+use Rattle.tree_answers.specs.Shown.{IsTreeOf}
+
+-- the bytes of an opened file hold a tree, which is the one that is kept
+abbrev pub Held : Type 0
+Held = (b : Array) (e : Bounds) (kept : ObjectTree) → IsOpened b e kept → (t : Plain) × Holds b e t × IsTreeOf kept t
+
+-- each tree that they hold is the one that is kept
+abbrev pub OpenedIs : Type 0
+OpenedIs = (b : Array) (e : Bounds) (kept : ObjectTree) → IsOpened b e kept → (t : Plain) → Holds b e t → IsTreeOf kept t
+
+-- a given command leaves the tree as it is, and makes no revision
+abbrev pub OnlyLooks : Type 0
+OnlyLooks = (t new : Plain) (c : Command) (r : Reply) → IsTrue (is_given c) → step plain_stack t c ≡ Ok (new, r) → (new ≡ t) × ((a : Answer) × (r ≡ Gives a))

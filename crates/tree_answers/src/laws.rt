@@ -1,0 +1,19 @@
+//! Laws of the tree that the program keeps, and of the commands that are given. Each function does nothing: its clause
+//! is the law.
+
+ghost use Rattle.tree_answers.specs.Laws.{Held, OpenedIs, OnlyLooks};
+
+/// The bytes of an opened file hold a tree of objects, which is the one that is kept.
+pub fn held()
+    ensures { Held }
+{}
+
+/// Each tree that the bytes of an opened file hold is the one that is kept.
+pub fn opened_is()
+    ensures { OpenedIs }
+{}
+
+/// A given command leaves the tree as it is.
+pub fn only_looks()
+    ensures { OnlyLooks }
+{}
