@@ -1,0 +1,46 @@
+-- What a reader of lines holds of a source, and which line of the source comes next.
+-- Cited by `LineReader`, and by the run of a script.
+use Rattle.std.specs.Prelude.{◌≡◌, ◌≢◌, ℕ, ◌-◌, ◌^◌, ◌≤◌, List, [], ◌∷◌, ◌++◌, length, take}
+use Rattle.std.specs.List.{Contains}
+use Rattle.script_lines.specs.declared.reader.NextLine.{NextLine}
+use Rattle.script_lines.specs.declared.reader.NextLine.TheVariants.{Line, Last, End}
+
+-- so many bytes of a line are kept: one more than a line of the language may have
+abbrev pub most_kept : ℕ
+most_kept = 65537
+
+-- so many bytes are taken of a source at most
+abbrev pub most_taken : ℕ
+most_taken = 2 ^ 32
+
+-- What a reader tells: the line that was found last, as far as it is kept; the bytes that were taken and not yet handed
+-- out in lines; and how many were taken.
+pub record Reading : Type 0 where
+  pub line : List ℕ
+  pub held : List ℕ
+  pub taken : ℕ
+
+-- how many of the bytes that were taken stood in lines so far
+abbrev pub spent : Reading → ℕ
+spent r = r.taken - length r.held
+
+-- no LF is among the bytes
+abbrev pub HasNoLf : List ℕ → Type 0
+HasNoLf bytes = Contains bytes 10 → ⊥
+
+-- What comes next in the bytes `old`, as far as it is kept, and what is left behind it: a line up to the first LF, a
+-- last one that lacks the LF but has a byte, or none.
+abbrev pub IsNext : NextLine → List ℕ → List ℕ → List ℕ → Type 0
+IsNext Line kept old new = (line : List ℕ) × (kept ≡ take most_kept line) × HasNoLf line × (old ≡ line ++ 10 ∷ new)
+IsNext Last kept old new = (kept ≡ take most_kept old) × HasNoLf old × (old ≢ []) × (new ≡ [])
+IsNext End kept old new = (old ≡ []) × (new ≡ [])
+
+-- How a reader keeps its bytes: those from `at` to `end` of a piece are held, and the line has its room.
+pub record AreKept (piece : List ℕ) (at end taken kept room : ℕ) : Type 0 where
+  pub piece_is : length piece ≡ 8192
+  pub order : at ≤ end
+  pub inside : end ≤ 8192
+  pub counted : end - at ≤ taken
+  pub bounded : taken ≤ 4294967296
+  pub short : kept ≤ 65537
+  pub has_room : 65537 ≤ room

@@ -1,0 +1,9 @@
+//! The lines of a script, read from a source in pieces of a fixed size.
+#![tactic(auto)]
+
+mod pieces;
+mod reader;
+#[cfg(test)]
+mod tests;
+
+pub use reader::{LineReader, NextLine, ReadStop};
