@@ -8,12 +8,20 @@ mod terminal;
 
 use folder::DirStore;
 use h5stack_core::run;
+use std::fs::File;
 use std::process::ExitCode;
 use terminal::{StdSink, StdSource, SysClock};
 
 /// Ends with the status of `run`; with 8 where there is no memory for the words.
 fn main(rt: HostRuntime) -> ExitCode {
     let alloc = rt.alloc();
+    // A stream that is closed at the start leaves its number to the next file that is opened, which what is printed would
+    // then overwrite. So the folder takes the numbers that are free: reading and writing it fail.
+    let _streams = [
+        File::open(&rt, "."),
+        File::open(&rt, "."),
+        File::open(&rt, "."),
+    ];
     let Ok(words) = arguments::words(&rt) else {
         let _ = eprintln!(rt; "fault: memory");
         return ExitCode::from(8);
