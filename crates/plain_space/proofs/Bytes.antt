@@ -78,7 +78,7 @@ over-unique b c at d inside outside = fun_ext (λ a. elim (range_cases at (lengt
 padded : (file : List ℕ) (n k : ℕ) → get_or (file ++ replicate n 0) k 0 ≡ get_or file k 0
 padded file n k = grind (arith, common_steps, places)
 
-length-resized : (n : ℕ) (file : List ℕ) → length (resized n file) ≡ n
+pub length-resized : (n : ℕ) (file : List ℕ) → length (resized n file) ≡ n
 length-resized n file = omega (arith, length-append (take n file) (replicate (n - length file) 0), length-take n file, length-replicate {A = ℕ} (n - length file) 0)
 
 -- below its length a file of another length has the same bytes
@@ -97,7 +97,7 @@ resized_below n file k lt = elim (cases_lt k (length file)) [
 written-parts : (file : List ℕ) (at : ℕ) (bytes : List ℕ) → written at bytes file ≡ resized at file ++ (bytes ++ drop (at + length bytes) file)
 written-parts file at bytes = append_assoc (resized at file) bytes (drop (at + length bytes) file)
 
-written_in : (file : List ℕ) (at : ℕ) (bytes : List ℕ) (k : ℕ) → k < length bytes → get_or (written at bytes file) (at + k) 0 ≡ get_or bytes k 0
+pub written_in : (file : List ℕ) (at : ℕ) (bytes : List ℕ) (k : ℕ) → k < length bytes → get_or (written at bytes file) (at + k) 0 ≡ get_or bytes k 0
 written_in file at bytes k lt =
     let front : length (resized at file) ≡ at = length-resized at file in
     let place : at + k - at ≡ k = omega arith in
@@ -106,7 +106,7 @@ written_in file at bytes k lt =
     ∙ ap (λ (j : ℕ). get_or (bytes ++ drop (at + length bytes) file) j 0) place
     ∙ get_or_append_left bytes (drop (at + length bytes) file) 0 k lt
 
-written_out : (file : List ℕ) (at : ℕ) (bytes : List ℕ) (k : ℕ) → (k < at) ⊎ (at + length bytes ≤ k) → get_or (written at bytes file) k 0 ≡ get_or file k 0
+pub written_out : (file : List ℕ) (at : ℕ) (bytes : List ℕ) (k : ℕ) → (k < at) ⊎ (at + length bytes ≤ k) → get_or (written at bytes file) k 0 ≡ get_or file k 0
 written_out file at bytes k h =
     let front : length (resized at file) ≡ at = length-resized at file in
     elim h [
@@ -123,8 +123,9 @@ written_out file at bytes k h =
           ∙ ap (λ (j : ℕ). get_or file j 0) place
     ]
 
-pub array-written : (file : List ℕ) (at : ℕ) (bytes : List ℕ) → array_of (written at bytes file) ≡ over (array_of file) at bytes
-array-written file at bytes = over-unique (array_of file) (array_of (written at bytes file)) at bytes (written_in file at bytes) (written_out file at bytes)
+pub length-written : (file : List ℕ) (at : ℕ) (bytes : List ℕ) → at + length bytes ≤ length file → length (written at bytes file) ≡ length file
+length-written file at bytes inside =
+    omega (arith, ap length (written-parts file at bytes), length-append (resized at file) (bytes ++ drop (at + length bytes) file), length-append bytes (drop (at + length bytes) file), length-resized at file, length-drop (at + length bytes) file)
 
 -- ---- with another length
 

@@ -1,2 +1,4 @@
 pub mod Bytes
+pub mod Seen
+pub mod Steps
 pub mod Views

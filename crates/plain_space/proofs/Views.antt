@@ -1,15 +1,17 @@
--- What a space over a file tells after a write, and with another length.
-use Rattle.std.proofs.Common.{ℕ, ◌≡◌, ◌≤◌, ◌-◌, Bool, IsTrue, List, length, replicate, refl, sym, ◌∙◌, ap, arith}
+-- What a space over a file tells after a write and with another length, and what its views tell of the file.
+use Rattle.std.proofs.Common.{ℕ, ◌≡◌, ◌<◌, ◌≤◌, ◌+◌, ◌-◌, ◌^◌, Bool, IsTrue, List, length, drop, replicate, refl, sym, ◌∙◌, ap, arith}
 use Rattle.h5_base.specs.declared.extent.Extent.{Extent}
 use Rattle.h5_base.specs.declared.extent.MemClass.{MemClass}
-use Rattle.outside.specs.Array.{array_of, over}
+use Rattle.outside.specs.Array.{Array, array_of, over, SameOutside}
 use Rattle.outside.specs.Files.{written, resized}
 use Rattle.outside.specs.Space.{Wrote, Raised}
 use Rattle.outside.specs.Store.{View}
-use Rattle.plain_space.specs.File.{array_in, file_in, view_of}
-use Rattle.plain_space.proofs.Bytes.{array-written, array-longer}
+use Rattle.plain_space.specs.File.{array_in, file_in, seen, view_of}
+use Rattle.std.proofs.lemmas.List.{length-replicate}
+use Rattle.plain_space.proofs.Bytes.{over-unique}
+use Rattle.plain_space.proofs.Seen.{seen-written, seen-longer, same_bytes}
 
-array_told : (tells : Bool) (file : List ℕ) → IsTrue tells → array_in tells file ≡ array_of file
+pub array_told : (tells : Bool) (file : List ℕ) → IsTrue tells → array_in tells file ≡ array_of (seen file)
 array_told tells file told = ap (λ (t : Bool). array_in t file) told
 
 -- the file of an id, where the names have stayed
@@ -17,11 +19,12 @@ file_after : (v w : View) (id : ℕ) (bytes : List ℕ) → w.names ≡ v.names 
 file_after v w id bytes names file = ap (λ (n : ℕ → List ℕ). w.files (n id)) names ∙ file
 
 pub wrote : (tells : Bool) (v w : View) (id end at : ℕ) (prepared : List Extent) (bytes : List ℕ) → IsTrue tells → w.names ≡ v.names
-    → w.files (v.names id) ≡ written at bytes (v.files (v.names id)) → Wrote at bytes (view_of tells v id end prepared) (view_of tells w id end prepared)
-wrote tells v w id end at prepared bytes told names file = record {
+    → w.files (v.names id) ≡ written at bytes (v.files (v.names id)) → at + length bytes ≤ 2 ^ 48
+    → Wrote at bytes (view_of tells v id end prepared) (view_of tells w id end prepared)
+wrote tells v w id end at prepared bytes told names file low = record {
   array = array_told tells (file_in w id) told
-      ∙ ap array_of (file_after v w id (written at bytes (file_in v id)) names file)
-      ∙ array-written (file_in v id) at bytes
+      ∙ ap (λ (l : List ℕ). array_of (seen l)) (file_after v w id (written at bytes (file_in v id)) names file)
+      ∙ seen-written (2 ^ 48) at bytes (file_in v id) low
       ∙ ap (λ a. over a at bytes) (sym (array_told tells (file_in v id) told));
   ends = refl;
   prepared = refl;
@@ -29,15 +32,42 @@ wrote tells v w id end at prepared bytes told names file = record {
 }
 
 pub raised_to : (tells : Bool) (v w : View) (id old end : ℕ) (prepared : List Extent) (class : MemClass) → IsTrue tells → w.names ≡ v.names
-    → w.files (v.names id) ≡ resized end (v.files (v.names id)) → old ≡ length (file_in v id) → old ≤ end
+    → w.files (v.names id) ≡ resized end (v.files (v.names id)) → old ≡ length (seen (file_in v id)) → old < end → end ≤ 2 ^ 48
     → Raised class end (view_of tells v id old prepared) (view_of tells w id end prepared)
-raised_to tells v w id old end prepared class told names file size up = record {
+raised_to tells v w id old end prepared class told names file size up low = record {
   array = array_told tells (file_in w id) told
-      ∙ ap array_of (file_after v w id (resized end (file_in v id)) names file)
-      ∙ array-longer (file_in v id) end (omega arith)
-      ∙ ap (λ (n : ℕ). over (array_of (file_in v id)) n (replicate (end - n) 0)) (sym size)
+      ∙ ap (λ (l : List ℕ). array_of (seen l)) (file_after v w id (resized end (file_in v id)) names file)
+      ∙ seen-longer (2 ^ 48) old end (file_in v id) size up low
       ∙ ap (λ a. over a old (replicate (end - old) 0)) (sym (array_told tells (file_in v id) told));
   ends = refl;
   prepared = refl;
   committed = refl;
 }
+
+-- a raise to the end as it is
+pub raised_nowhere : (tells : Bool) (v : View) (id old end : ℕ) (prepared : List Extent) (class : MemClass) → end ≡ old
+    → Raised class end (view_of tells v id old prepared) (view_of tells v id old prepared)
+raised_nowhere tells v id old end prepared class same = record {
+  array = over-unique (array_in tells (file_in v id)) (array_in tells (file_in v id)) old (replicate (end - old) 0)
+      (λ k lt. absurd (omega (arith, lt, same, length-replicate {A = ℕ} (end - old) 0))) (λ k h. refl);
+  ends = λ k class. sym same k;
+  prepared = refl;
+  committed = refl;
+}
+
+-- the arrays that are told agree outside a range where those of the files do
+pub told_outside : (tells : Bool) (v w : View) (id at n : ℕ) → IsTrue tells → w.names ≡ v.names
+    → SameOutside at n (array_of (seen (file_in v id))) (array_of (seen (w.files (v.names id))))
+    → SameOutside at n (array_in tells (file_in v id)) (array_in tells (file_in w id))
+told_outside tells v w id at n told names same k h =
+    ap (λ (b : Array). b k) (array_told tells (file_in w id) told)
+    ∙ ap (λ (l : List ℕ). array_of (seen l) k) (file_after v w id (w.files (v.names id)) names refl)
+    ∙ same k h
+    ∙ ap (λ (b : Array). b k) (sym (array_told tells (file_in v id) told))
+
+-- the same file, where all that is told of it is the same
+pub told_same : (tells : Bool) (v w : View) (i j : ℕ) → IsTrue tells → j ≡ i → array_in tells (file_in w j) ≡ array_in tells (file_in v i)
+    → drop (2 ^ 48) (file_in w i) ≡ drop (2 ^ 48) (file_in v i) → length (file_in w i) ≡ length (file_in v i) → file_in w i ≡ file_in v i
+told_same tells v w i j told same array behind size = same_bytes (2 ^ 48) (file_in v i) (file_in w i)
+    (sym (array_told tells (file_in w i) told) ∙ ap (λ (k : ℕ). array_in tells (file_in w k)) (sym same) ∙ array ∙ array_told tells (file_in v i) told)
+    behind size

@@ -66,11 +66,12 @@ alike_on tells tells_images u v w lu lv lw pu pv pw a b c first second = record 
 }
 
 -- what isn't told may differ
-pub same_array : (tells : Bool) (f g : List ℕ) → (IsTrue tells → f ≡ g) → array_in tells f ≡ array_in tells g
+same_array : (tells : Bool) (f g : List ℕ) → (IsTrue tells → f ≡ g) → array_in tells f ≡ array_in tells g
 same_array true f g same = ap (array_in true) (same refl)
 same_array false f g same = refl
 
-same_file : (tells : Bool) (v w : View) (i j : ℕ) → w.names ≡ v.names → Goes tells (λ _. ⊥) v w → j ≡ i → IsTrue tells → file_in w j ≡ file_in v i
+-- a file that was only looked at is as it was
+pub same_file : (tells : Bool) (v w : View) (i j : ℕ) → w.names ≡ v.names → Goes tells (λ _. ⊥) v w → j ≡ i → IsTrue tells → file_in w j ≡ file_in v i
 same_file tells v w i j names goes id told = (λ k. w.files (names k (id k))) ∙ goes.others told (v.names i) (λ changed. changed)
 
 pub view_alike : {S : Type 0} (tells tells_images : Bool) (v w : View) (lv lw : Files → Type 0) (pv pw : Snapshot → Type 0) (a b : PlainSpace S)

@@ -1,6 +1,6 @@
 -- One file of a store by address: what a space over it tells, when it stands and when it rests.
 -- Cited by `PlainSpace`, and by its callers.
-use Rattle.std.specs.Prelude.{◌≡◌, ◌≢◌, ℕ, ◌^◌, ◌<◌, Bool, true, false, IsTrue, List, length, Option, Some, None}
+use Rattle.std.specs.Prelude.{◌≡◌, ◌≢◌, ℕ, ◌^◌, ◌<◌, Bool, true, false, IsTrue, List, length, take, drop, Option, Some, None}
 use Rattle.h5_base.specs.declared.extent.Extent.{Extent}
 use Rattle.h5_base.specs.declared.extent.Region.{Region}
 use Rattle.outside.specs.Array.{Array, array_of}
@@ -12,9 +12,13 @@ use Rattle.outside.specs.Store.{View, Goes, GoesOver}
 abbrev pub file_in : View → ℕ → List ℕ
 file_in v id = v.files (v.names id)
 
+-- the bytes of a file that a space sees: those whose addresses lie below 2^48
+abbrev pub seen : List ℕ → List ℕ
+seen file = take (2 ^ 48) file
+
 -- address a is byte a of the file, where the store tells its files; where it doesn't, each byte is told as 0
 abbrev pub array_in : Bool → List ℕ → Array
-array_in true file = array_of file
+array_in true file = array_of (seen file)
 array_in false file = λ address. 0
 
 -- the one region, of each class
@@ -32,10 +36,10 @@ view_of tells v id end prepared = record {
   committed = None;
 }
 
--- The id was given, and the end is the length of its file, where it is told.
+-- The id was given, and the end is the number of the bytes that are seen of its file, where it is told.
 pub record IsOpen (tells : Bool) (v : View) (id end : ℕ) : Type 0 where
   pub given : 0 < length (v.names id)
-  pub length_is : IsTrue tells → end ≡ length (file_in v id)
+  pub length_is : IsTrue tells → end ≡ length (seen (file_in v id))
 
 -- Over an honest store that tells its files and images, a stop leaves the file just as it reads.
 abbrev pub RestsIn : Bool → Bool → View → (Files → Type 0) → ℕ → Type 0
@@ -51,11 +55,12 @@ pub record Looks (tells tells_images : Bool) (id : ℕ) (v w : View) (leaves new
   pub fewer : IsTrue tells_images → (c : Files) → new_leaves c → leaves c
   pub since : IsTrue tells_images → GoesOver (λ _. ⊥) leaves new_leaves past new_past
 
--- What a run of calls on one file leaves of its store: names, the other files and their faults stay, and each image and each
--- snapshot since agrees with one that a stop could leave before in every other file.
+-- What a run of calls on one file leaves of its store: names, the other files and their faults stay, the bytes of the file that
+-- aren't seen stay, and each image and each snapshot since agrees with one that a stop could leave before in every other file.
 pub record Touches (tells tells_images : Bool) (id : ℕ) (v w : View) (leaves new_leaves : Files → Type 0) (past new_past : Snapshot → Type 0) : Type 0 where
   pub names : w.names ≡ v.names
   pub ids : w.ids ≡ v.ids
   pub goes : Goes tells (λ q. q ≡ v.names id) v w
   pub others : (k : Option ℕ) → k ≢ Some id → w.counts k ≡ v.counts k
+  pub unseen : IsTrue tells → drop (2 ^ 48) (file_in w id) ≡ drop (2 ^ 48) (file_in v id)
   pub since : IsTrue tells_images → GoesOver (λ q. q ≡ v.names id) leaves new_leaves past new_past

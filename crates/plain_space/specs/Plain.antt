@@ -1,10 +1,9 @@
 -- What a space over one file is made of.
 -- Cited by the clauses of `PlainSpace`, and by its callers.
-use Rattle.std.specs.Prelude.{◌≡◌, ℕ, List, Result, Ok, Err}
+use Rattle.std.specs.Prelude.{ℕ, List, Result, Ok, Err}
 use Rattle.h5_base.specs.declared.extent.Extent.{Extent}
 use Rattle.plain_space.specs.declared.space.PlainSpace.{PlainSpace}
 use Rattle.plain_space.specs.declared.opening.OpenRefused.{OpenRefused}
-use Rattle.plain_space.specs.declared.opening.OpenStop.{OpenStop}
 
 -- the store that the file is in
 abbrev pub store_of : {S : Type 0} → PlainSpace S → S
@@ -26,8 +25,3 @@ prepared_of space = space.prepared.items
 abbrev pub store_left : {S : Type 0} → Result (PlainSpace S) (OpenRefused S) → S
 store_left (Ok space) = space.store
 store_left (Err refused) = refused.store
-
--- a file wasn't opened for this reason
-abbrev pub IsRefusedBy : {S : Type 0} → OpenStop → Result (PlainSpace S) (OpenRefused S) → Type 0
-IsRefusedBy why (Ok space) = ⊥
-IsRefusedBy why (Err refused) = refused.why ≡ why

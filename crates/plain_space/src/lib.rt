@@ -5,5 +5,5 @@ mod opening;
 mod part;
 mod space;
 
-pub use opening::{OpenRefused, OpenStop};
+pub use opening::OpenRefused;
 pub use space::PlainSpace;

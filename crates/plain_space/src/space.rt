@@ -1,6 +1,6 @@
 ghost use Rattle.std.specs.Prelude.{◌≡◌, ◌^◌, ◌≤◌};
 
-use crate::opening::{OpenRefused, OpenStop};
+use crate::opening::OpenRefused;
 use crate::part::read_part;
 use h5_base::{Comment, Extent, MemClass, NoMemory, Region};
 use outside::{CommitAnswer, CommitStop, Failed, FileId, Kept, Space, Store, WriteStop};
@@ -10,7 +10,8 @@ use std::alloc::Global;
 const LIMIT: u64 = 1 << 48;
 
 /// One file of a store as a space: address a is byte a of the file. Each class has the region of all addresses below
-/// 2^48, and each class's end is the file's length. It has no revisions.
+/// 2^48, and each class's end is the file's length, or 2^48 where the file is longer: its bytes from there on are never
+/// seen, and stay. It has no revisions. After a raise that failed the end is the one that was asked for.
 #[derive(Drop)]
 pub struct PlainSpace<S> {
     store: S,
@@ -21,44 +22,34 @@ pub struct PlainSpace<S> {
 }
 
 impl<S: Store> PlainSpace<S> {
-    ghost use Rattle.std.specs.Prelude.{◌<◌, [], length, Some, IsTrue, IfOk, OnOk};
+    ghost use Rattle.std.specs.Prelude.{◌<◌, [], length, Some, IsTrue, IfOk, OnErr};
     ghost use Rattle.outside.specs.Array.{array_of};
     ghost use Rattle.outside.specs.Causes.{Rose};
-    ghost use Rattle.plain_space.specs.File.{file_in, view_of, RestsIn, Looks};
-    ghost use Rattle.plain_space.specs.Plain.{store_of, id_of, end_of, prepared_of, store_left, IsRefusedBy};
+    ghost use Rattle.outside.specs.Store.{SomeRose};
+    ghost use Rattle.plain_space.specs.File.{file_in, seen, view_of, RestsIn, Looks, Touches};
+    ghost use Rattle.plain_space.specs.Plain.{store_of, id_of, end_of, prepared_of, store_left};
+    ghost use Rattle.plain_space.specs.declared.space.PlainSpace.{PlainSpace};
 
-    /// The file with this id, at its length, for which the store is asked in one call. The store is handed back where the
-    /// call fails, and where the file has more than 2^48 bytes. It takes no memory.
+    /// The file with this id, for whose length the store is asked in one call. The store is handed back where the call
+    /// fails. It takes no memory.
     pub fn open(alloc: Global, mut store: S, id: FileId) -> Result<PlainSpace<S>, OpenRefused<S>>
         requires { 0 < length ((S.view store).names id.n) }
         ensures id { IfOk result (λ space. id_of space ≡ id.n) }
-        ensures end { IsTrue S.tells_files → IfOk result (λ space. end_of space ≡ length (file_in (S.view store) id.n)) }
+        ensures end { IsTrue S.tells_files → IfOk result (λ space. end_of space ≡ length (seen (file_in (S.view store) id.n))) }
         ensures prepared { IfOk result (λ space. prepared_of space ≡ []) }
         ensures stands { IfOk result (λ space. ⟦<PlainSpace<S> as Space>⟧.Stands space) }
-        ensures too_long { IsTrue S.tells_files → IsRefusedBy OpenStop.TooLong result → 2 ^ 48 < length (file_in (S.view store) id.n) }
-        ensures short { IsTrue S.tells_files → OnOk result (length (file_in (S.view store) id.n) ≤ 2 ^ 48) }
-        ensures failed { IsRefusedBy OpenStop.Failed result → Rose ((S.view store).counts (Some id.n)) ((S.view (store_left result)).counts (Some id.n)) }
+        ensures view { IfOk result (λ space. ⟦<PlainSpace<S> as Space>⟧.view space ≡ view_of S.tells_files (S.view (store_of space)) (id_of space) (end_of space) []) }
+        ensures failed { OnErr result (Rose ((S.view store).counts (Some id.n)) ((S.view (store_left result)).counts (Some id.n))) }
         ensures looks { Looks S.tells_files S.tells_images id.n (S.view store) (S.view (store_left result)) (S.leaves store) (S.leaves (store_left result)) (S.past store) (S.past (store_left result)) }
     {
         match store.len(id) {
-            Ok(end) => {
-                if end > LIMIT {
-                    return Err(OpenRefused {
-                        store,
-                        why: OpenStop::TooLong,
-                    });
-                }
-                Ok(PlainSpace {
-                    store,
-                    id,
-                    end,
-                    prepared: Vec::new(alloc),
-                })
-            }
-            Err(Failed) => Err(OpenRefused {
+            Ok(len) => Ok(PlainSpace {
                 store,
-                why: OpenStop::Failed,
+                id,
+                end: len.min(LIMIT),
+                prepared: Vec::new(alloc),
             }),
+            Err(Failed) => Err(OpenRefused { store }),
         }
     }
 
@@ -66,10 +57,23 @@ impl<S: Store> PlainSpace<S> {
     pub fn into_store(self) -> S
         ensures store { result ≡ store_of self }
         ensures view { ⟦<PlainSpace<S> as Space>⟧.view self ≡ view_of S.tells_files (S.view result) (id_of self) (end_of self) (prepared_of self) }
-        ensures array { IsTrue S.tells_files → (⟦<PlainSpace<S> as Space>⟧.view self).array ≡ array_of (file_in (S.view result) (id_of self)) }
+        ensures array { IsTrue S.tells_files → (⟦<PlainSpace<S> as Space>⟧.view self).array ≡ array_of (seen (file_in (S.view result) (id_of self))) }
         ensures faults { ⟦<PlainSpace<S> as Space>⟧.faults self ≡ (S.view result).counts (Some (id_of self)) }
         ensures moment { ⟦<PlainSpace<S> as Space>⟧.moment self ≡ (S.view result).moment }
         ensures rests { ⟦<PlainSpace<S> as Space>⟧.Rests self → RestsIn S.tells_files S.tells_images (S.view result) (S.leaves result) (id_of self) }
+        // What the calls on the space, since it was another, left of its store.
+        ensures looked { (a : PlainSpace S) → ⟦<PlainSpace<S> as Kept>⟧.Alike a self
+            → Looks S.tells_files S.tells_images (id_of a) (S.view (store_of a)) (S.view result) (S.leaves (store_of a)) (S.leaves result) (S.past (store_of a)) (S.past result) }
+        ensures touched { (a : PlainSpace S) → ⟦<PlainSpace<S> as Space>⟧.GoesOn a self
+            → Touches S.tells_files S.tells_images (id_of a) (S.view (store_of a)) (S.view result) (S.leaves (store_of a)) (S.leaves result) (S.past (store_of a)) (S.past result) }
+        ensures same_id { (a : PlainSpace S) → ⟦<PlainSpace<S> as Space>⟧.GoesOn a self → id_of self ≡ id_of a }
+        // With the same bytes and ends, it is the same file, with the bytes that aren't seen.
+        ensures same_file { (a : PlainSpace S) → IsTrue S.tells_files → ⟦<PlainSpace<S> as Space>⟧.GoesOn a self
+            → (⟦<PlainSpace<S> as Space>⟧.view self).array ≡ (⟦<PlainSpace<S> as Space>⟧.view a).array → (⟦<PlainSpace<S> as Space>⟧.view self).ends ≡ (⟦<PlainSpace<S> as Space>⟧.view a).ends
+            → file_in (S.view result) (id_of a) ≡ file_in (S.view (store_of a)) (id_of a) }
+        // A fault of the space is one of the store.
+        ensures rose { (a : PlainSpace S) → ⟦<PlainSpace<S> as Space>⟧.GoesOn a self → Rose (⟦<PlainSpace<S> as Space>⟧.faults a) (⟦<PlainSpace<S> as Space>⟧.faults self)
+            → SomeRose (S.view (store_of a)) (S.view result) }
     {
         let PlainSpace {
             store,
@@ -132,11 +136,12 @@ impl<S: Store> Space for PlainSpace<S> {
     }
 
     fn raise(&mut self, _: MemClass, end: u64) -> Result<(), WriteStop> {
+        if end == self.end {
+            return Ok(());
+        }
+        self.end = end;
         match self.store.set_len(self.id, end) {
-            Ok(()) => {
-                self.end = end;
-                Ok(())
-            }
+            Ok(()) => Ok(()),
             Err(Failed) => Err(WriteStop::Failed),
         }
     }

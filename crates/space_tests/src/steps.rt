@@ -2,7 +2,7 @@
 ghost use Rattle.std.specs.Prelude.{◌≡◌, ◌+◌, ◌-◌, ◌^◌, ◌<◌, ◌≤◌, [], ◌∷◌, None, ℕ, List, IsTrue, IfOk, OnOk, length};
 ghost use Rattle.h5_base.specs.declared.extent.MemClass.{MemClass};
 ghost use Rattle.outside.specs.Array.{array_of, over};
-ghost use Rattle.plain_space.specs.File.{file_in};
+ghost use Rattle.plain_space.specs.File.{file_in, seen};
 ghost use Rattle.outside.specs.Space.{AreCovered, LiesIn, SameKind};
 
 use h5_base::{Extent, MemClass};
@@ -91,7 +91,7 @@ pub fn overwritten<S: Store + Drop>(
 ) -> Result<S, Fail>
     requires given { 0 < length ((S.view store).names id.n) }
     ensures names { IfOk result (λ after. (S.view after).names ≡ (S.view store).names) }
-    ensures bytes { IsTrue S.tells_files → IfOk result (λ after. array_of (file_in (S.view after) id.n) ≡ over (array_of (file_in (S.view store) id.n)) at bytes.now) }
+    ensures bytes { IsTrue S.tells_files → IfOk result (λ after. array_of (seen (file_in (S.view after) id.n)) ≡ over (array_of (seen (file_in (S.view store) id.n))) at bytes.now) }
     ensures others { IsTrue S.tells_files → IfOk result (λ after. (q : List ℕ) → (q ≡ (S.view store).names id.n → ⊥) → (S.view after).files q ≡ (S.view store).files q) }
 {
     let mut space = match PlainSpace::open(alloc, store, id) {
