@@ -1,0 +1,36 @@
+use Rattle.std.proofs.Common.{sym, ◌∙◌, ap}
+use Rattle.outside.proofs.Goes.{goes_on, over_on}
+use Rattle.outside.specs.Space.{SpaceView}
+use Rattle.plain_space.specs.Alike.{view_alike}
+use Rattle.stack_mount.proofs.Fronts.{admitted_at, refused_at}
+use Rattle.stack_mount.proofs.mounting.mount.Goals as goal
+
+pub returns-in-Err-clause-refused : goal.returns-in-Err-clause-refused
+returns-in-Err-clause-refused g c = λ told line. absurd (c.in-Err.ensures.no_line line)
+
+pub returns-in-Ok-judge-clause-array : goal.returns-in-Ok-judge-clause-array
+returns-in-Ok-judge-clause-array g c = λ told.
+    let a = c.in-Ok.space in
+    let b = c.judge.new.space in
+    ap (λ (v : SpaceView). v.array) (sym (view_alike g.S.Store.tells_files g.S.Store.tells_images (g.S.Store.view a.store) (g.S.Store.view b.store)
+    (g.S.Store.leaves a.store) (g.S.Store.leaves b.store) (g.S.Store.past a.store) (g.S.Store.past b.store) a b c.in-Ok-judge.ensures.alike))
+    ∙ c.in-Ok.ensures.array told
+
+pub returns-in-Ok-judge-clause-admitted : goal.returns-in-Ok-judge-clause-admitted
+returns-in-Ok-judge-clause-admitted g c = λ told.
+    admitted_at _ _ _ _ (c.in-Ok.ensures.array told) (c.in-Ok.ensures.end told) (c.in-Ok-judge.ensures.admitted told)
+
+pub returns-in-Err-judge-clause-refused : goal.returns-in-Err-judge-clause-refused
+returns-in-Err-judge-clause-refused g c = λ told line.
+    refused_at _ _ _ _ c.in-Err-judge.fault (c.in-Ok.ensures.array told) (c.in-Ok.ensures.end told) (c.in-Err-judge.ensures.refused told line)
+
+pub returns-in-Err-judge-clause-goes : goal.returns-in-Err-judge-clause-goes
+returns-in-Err-judge-clause-goes g c =
+    goes_on g.S.Store.tells_files (λ q. ⊥) (g.S.Store.view c.args.store) (g.S.Store.view c.in-Ok.space.store) (g.S.Store.view c.into_store.result)
+    c.in-Ok.ensures.left.goes (c.into_store.ensures.looked c.in-Ok.space c.in-Err-judge.ensures.alike).goes
+
+pub returns-in-Err-judge-clause-since : goal.returns-in-Err-judge-clause-since
+returns-in-Err-judge-clause-since g c = λ told.
+    over_on (λ q. ⊥) (g.S.Store.leaves c.args.store) (g.S.Store.leaves c.in-Ok.space.store) (g.S.Store.leaves c.into_store.result)
+    (g.S.Store.past c.args.store) (g.S.Store.past c.in-Ok.space.store) (g.S.Store.past c.into_store.result)
+    (c.in-Ok.ensures.left.since told) ((c.into_store.ensures.looked c.in-Ok.space c.in-Err-judge.ensures.alike).since told)

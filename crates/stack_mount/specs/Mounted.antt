@@ -1,0 +1,70 @@
+-- When a file is mounted, and why not, by its bytes and where they end; and what judging it leaves of its store.
+-- Cited by `mount`, and by its callers.
+use Rattle.std.specs.Prelude.{◌≡◌, ◌≢◌, ℕ, ◌<◌, ◌≤◌, Bool, IsTrue, Result, Ok, Err}
+use Rattle.h5_base.specs.declared.BlockKind.TheVariants as block_kind
+use Rattle.outside.specs.Array.{Array}
+use Rattle.outside.specs.Files.{Files, Snapshot}
+use Rattle.outside.specs.Store.{View, Goes, GoesOver}
+use Rattle.super_codec.specs.Super.{Spells, stop_of}
+use Rattle.super_codec.specs.declared.superblock.Superblock.{Superblock}
+use Rattle.super_codec.specs.declared.superblock.SuperStop.{SuperStop}
+use Rattle.super_codec.specs.declared.superblock.SuperStop.TheVariants as stop
+use Rattle.file_model.specs.Holds.{super_bytes_of}
+use Rattle.file_model.specs.Laws.{one_region}
+use Rattle.plain_space.specs.Plain.{store_of}
+use Rattle.plain_space.specs.declared.space.PlainSpace.{PlainSpace}
+use Rattle.stack_mount.specs.declared.faults.MountFault.{MountFault}
+use Rattle.stack_mount.specs.declared.faults.MountFault.TheVariants as mount_fault
+use Rattle.stack_mount.specs.declared.faults.MountRefused.{MountRefused}
+
+-- a refusal of the file, which its bytes show: neither a fault of the store nor want of memory
+abbrev pub IsLine : MountFault → Type 0
+IsLine mount_fault.Absent = Unit {0}
+IsLine (mount_fault.Malformed at kind) = Unit {0}
+IsLine (mount_fault.Unsupported what) = Unit {0}
+IsLine (mount_fault.Truncated actual stored) = Unit {0}
+IsLine mount_fault.Failed = ⊥
+IsLine mount_fault.NoMemory = ⊥
+
+-- why bytes that spell no superblock are refused
+abbrev pub of_super : SuperStop → MountFault
+of_super stop.NotThis = mount_fault.Malformed 0 block_kind.Super
+of_super (stop.Unsupported what) = mount_fault.Unsupported what
+
+-- the bytes spell no superblock below the end, and this is the refusal
+pub record LacksSuper (b : Array) (end : ℕ) (fault : MountFault) : Type 0 where
+  pub none : (s : Superblock) → Spells s (super_bytes_of b (one_region end)) → ⊥
+  pub line : fault ≡ of_super (stop_of (super_bytes_of b (one_region end)))
+
+-- The file is refused, the first of: it is empty, its superblock isn't spelled, it ends before the end that is stored.
+pub data IsRefused (b : Array) (end : ℕ) (fault : MountFault) : Type 0 where
+  EmptyFile : end ≡ 0 → fault ≡ mount_fault.Absent → IsRefused b end fault
+  NoSuper : end ≢ 0 → LacksSuper b end fault → IsRefused b end fault
+  ShortFile : (s : Superblock) → Spells s (super_bytes_of b (one_region end)) → end < s.end_at → fault ≡ mount_fault.Truncated end s.end_at
+      → IsRefused b end fault
+
+-- The file is mounted: it isn't empty, a superblock is spelled, and the end that it stores is no greater.
+pub record IsAdmitted (b : Array) (end : ℕ) : Type 0 where
+  pub some : end ≢ 0
+  pub superblock : Superblock
+  pub spelled : Spells superblock (super_bytes_of b (one_region end))
+  pub whole : superblock.end_at ≤ end
+
+-- no file is refused and mounted
+abbrev pub OneVerdict : Type 0
+OneVerdict = (b : Array) (end : ℕ) (f : MountFault) → IsRefused b end f → IsAdmitted b end → ⊥
+
+-- a file is refused for one reason
+abbrev pub OneFault : Type 0
+OneFault = (b : Array) (end : ℕ) (f g : MountFault) → IsRefused b end f → IsRefused b end g → f ≡ g
+
+-- the store after a file was mounted, or wasn't
+abbrev pub store_left : {S : Type 0} → Result (PlainSpace S) (MountRefused S) → S
+store_left (Ok space) = store_of space
+store_left (Err refused) = refused.store
+
+-- What calls that change no file leave of a store: each image and each snapshot since is one that a stop could leave before.
+pub record IsOnlySeen (tells tells_images : Bool) (v w : View) (leaves new_leaves : Files → Type 0) (past new_past : Snapshot → Type 0) : Type 0 where
+  pub goes : Goes tells (λ _. ⊥) v w
+  pub fewer : IsTrue tells_images → (c : Files) → new_leaves c → leaves c
+  pub since : IsTrue tells_images → GoesOver (λ _. ⊥) leaves new_leaves past new_past
