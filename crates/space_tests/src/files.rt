@@ -18,8 +18,8 @@ pub fn file_name(alloc: Global) -> Result<Name, test::Fail> {
     Ok(Name::new(alloc, "a")?)
 }
 
-// A store with one file of these bytes, of whose calls those listed fail.
-fn store(alloc: Global, bytes: &[u8], fails: Vec<Fail>) -> Result<MemStore, test::Fail> {
+/// A store with one file of these bytes, of whose calls those listed fail.
+pub fn store(alloc: Global, bytes: &[u8], fails: Vec<Fail>) -> Result<MemStore, test::Fail> {
     let mut files = Vec::new(alloc);
     files.push(NamedBytes {
         name: file_name(alloc)?,

@@ -15,6 +15,8 @@ mod looking;
 #[cfg(test)]
 mod lookups;
 #[cfg(test)]
+mod mounted;
+#[cfg(test)]
 mod plain;
 #[cfg(test)]
 mod refused_files;
