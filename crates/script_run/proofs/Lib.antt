@@ -1,0 +1,2 @@
+pub mod LineSplits
+pub mod RunLemmas

@@ -1,0 +1,11 @@
+//! The run of a script that only looks at a tree: each line is read, answered and printed.
+#![tactic(auto)]
+
+mod line;
+mod run;
+mod stop;
+#[cfg(test)]
+mod tests;
+
+pub use run::answer_script;
+pub use stop::{Ended, ScriptStop};
