@@ -1,2 +1,3 @@
 pub mod LineSplits
+pub mod Parts
 pub mod RunLemmas
