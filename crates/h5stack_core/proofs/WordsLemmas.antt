@@ -8,7 +8,7 @@ use Rattle.std.proofs.Common.{length-drop, nat_le, ◌==◌}
 use Rattle.h5stack_core.specs.declared.words.WordFault.TheVariants.{Unknown, NotBuilt, Order, Name}
 use Rattle.h5_base.specs.Names.{IsName}
 use Rattle.h5stack_core.specs.declared.words.WordFault.{WordFault}
-use Rattle.h5stack_core.specs.Words.{is_file_byte, is_file_name, is_plain, is_later_layer, is_onion, file_of, base_fault, action_fault, after_action, after_base, first_of_two, word_fault, named, texts}
+use Rattle.h5stack_core.specs.Words.{is_file_byte, is_file_name, is_plain, is_later_layer, is_onion, is_run, file_of, base_fault, action_fault, after_action, after_base, first_of_two, word_fault, named, texts}
 use Rattle.std.proofs.lemmas.List.{length-map}
 use Rattle.std.specs.Prelude.{string_bytes, String}
 use Rattle.std.specs.declared.alloc.Global.{Global}
@@ -53,9 +53,9 @@ pub record Admitted (words : List (List ℕ)) : Type 0 where
   pub file : drop 6 (get_or words 1 []) ≡ named words
   pub name : IsName (named words)
 
-base_admitted : (k : ℕ) (word : List ℕ) → base_fault k word ≡ None → (is_plain word ≡ true) × (is_file_name (file_of word) ≡ true)
+base_admitted : (runs : Bool) (k : ℕ) (word : List ℕ) → base_fault runs k word ≡ None → (is_plain word ≡ true) × (is_file_name (file_of word) ≡ true)
 unfolding base_fault
-base_admitted k word h = go (is_plain word) (is_file_name (file_of word)) (is_later_layer word) (is_onion word) h
+base_admitted runs k word h = go (is_plain word) (is_file_name (file_of word)) (is_later_layer runs word) (is_onion word) h
   where
     go : (p f l o : Bool) → cond p (cond f None (Some (Name k))) (cond l (Some (NotBuilt k)) (cond o (Some (Order k)) (Some (Unknown k)))) ≡ None → (p ≡ true) × (f ≡ true)
     go true true l o h = (refl, refl)
@@ -64,9 +64,9 @@ base_admitted k word h = go (is_plain word) (is_file_name (file_of word)) (is_la
     go false f false true h = cc
     go false f false false h = cc
 
-admitted_rest : (rest : List (List ℕ)) (a : Option WordFault) → first_of_two a (after_action rest) ≡ None → after_action rest ≡ None
-admitted_rest rest None h = h
-admitted_rest rest (Some f) h = cc
+admitted_rest : (runs : Bool) (rest : List (List ℕ)) (a : Option WordFault) → first_of_two a (after_action runs rest) ≡ None → after_action runs rest ≡ None
+admitted_rest runs rest None h = h
+admitted_rest runs rest (Some f) h = cc
 
 first_none : (a b : Option WordFault) → first_of_two a b ≡ None → a ≡ None
 first_none None b h = refl
@@ -74,10 +74,11 @@ first_none (Some f) b h = cc
 
 pub admitted : (words : List (List ℕ)) → word_fault words ≡ None → Admitted words
 admitted [] h = cc
-admitted (action ∷ []) h = let none : after_action [] ≡ None = admitted_rest [] (action_fault action) h in cc
+admitted (action ∷ []) h = let none : after_action (is_run action) [] ≡ None = admitted_rest (is_run action) [] (action_fault action) h in cc
 admitted (action ∷ base ∷ rest) h =
-    let none : after_action (base ∷ rest) ≡ None = admitted_rest (base ∷ rest) (action_fault action) h in
-    let is = base_admitted 1 base (first_none (base_fault 1 base) (after_base rest) none) in
+    let runs = is_run action in
+    let none : after_action runs (base ∷ rest) ≡ None = admitted_rest runs (base ∷ rest) (action_fault action) h in
+    let is = base_admitted runs 1 base (first_none (base_fault runs 1 base) (after_base runs rest) none) in
     let name = name_of_file (file_of base) is.1 in
     record {
       two = omega arith;

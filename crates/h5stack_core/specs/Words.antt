@@ -1,5 +1,5 @@
 -- Which words are admitted, and the first fault of those that are not.
-use Rattle.std.specs.Prelude.{ℕ, Bool, ◌&&◌, ◌||◌, not, ◌==◌, nat_le, List, [], ◌∷◌, ◌++◌, length, drop, map, slice_index, Option, Some, None, if◌then◌else◌, codes, string_bytes, String}
+use Rattle.std.specs.Prelude.{◌≡◌, ℕ, Bool, true, false, ◌&&◌, ◌||◌, not, ◌==◌, nat_le, List, [], ◌∷◌, ◌++◌, length, drop, map, slice_index, Option, Some, None, if◌then◌else◌, codes, string_bytes, String}
 use Rattle.std.specs.List.{starts_with, list_all}
 use Rattle.std.specs.Bool.{nat_eq}
 use Rattle.std.specs.Str.{bytes_eq}
@@ -17,17 +17,17 @@ is_file_byte b =
 abbrev pub is_file_name : List ℕ → Bool
 is_file_name text = not (length text == 0) && (nat_le (length text) 100 && (not (slice_index text 0 == 46) && list_all is_file_byte text))
 
+abbrev pub is_create : List ℕ → Bool
+is_create word = bytes_eq word (codes "create")
+
+abbrev pub is_run : List ℕ → Bool
+is_run word = bytes_eq word (codes "run")
+
 -- the actions that aren't built yet
 abbrev pub is_later_action : List ℕ → Bool
 is_later_action word =
-    bytes_eq word (codes "run") || bytes_eq word (codes "attach") || bytes_eq word (codes "recover") || bytes_eq word (codes "revisions")
+    bytes_eq word (codes "attach") || bytes_eq word (codes "recover") || bytes_eq word (codes "revisions")
     || bytes_eq word (codes "channels") || bytes_eq word (codes "repart") || bytes_eq word (codes "generate")
-
--- the layers of `create` that aren't built yet
-abbrev pub is_later_layer : List ℕ → Bool
-is_later_layer word =
-    starts_with nat_eq word (codes "splitter=") || starts_with nat_eq word (codes "family=") || starts_with nat_eq word (codes "split=")
-    || starts_with nat_eq word (codes "multi=") || starts_with nat_eq word (codes "subfiling=") || starts_with nat_eq word (codes "ext=")
 
 abbrev pub is_plain : List ℕ → Bool
 is_plain word = starts_with nat_eq word (codes "plain=")
@@ -35,40 +35,60 @@ is_plain word = starts_with nat_eq word (codes "plain=")
 abbrev pub is_onion : List ℕ → Bool
 is_onion word = starts_with nat_eq word (codes "onion=")
 
+-- the layers of an action that aren't built yet: only a run takes an onion
+abbrev pub is_later_layer : (runs : Bool) → List ℕ → Bool
+is_later_layer runs word =
+    (runs && is_onion word) || starts_with nat_eq word (codes "splitter=") || starts_with nat_eq word (codes "family=") || starts_with nat_eq word (codes "split=")
+    || starts_with nat_eq word (codes "multi=") || starts_with nat_eq word (codes "subfiling=") || starts_with nat_eq word (codes "ext=")
+
 -- the file that a `plain` word names
 abbrev pub file_of : List ℕ → List ℕ
 file_of word = drop 6 word
 
 -- the fault of a word in the place of the base
-unfoldable pub base_fault : ℕ → List ℕ → Option WordFault
-base_fault k word =
+unfoldable pub base_fault : (runs : Bool) → ℕ → List ℕ → Option WordFault
+base_fault runs k word =
     if is_plain word then (if is_file_name (file_of word) then None else Some (Name k))
-    else (if is_later_layer word then Some (NotBuilt k) else (if is_onion word then Some (Order k) else Some (Unknown k)))
+    else (if is_later_layer runs word then Some (NotBuilt k) else (if is_onion word then Some (Order k) else Some (Unknown k)))
 
 -- and of a word behind the last
-unfoldable pub rest_fault : ℕ → List ℕ → WordFault
-rest_fault k word = if is_later_layer word then NotBuilt k else (if is_plain word || is_onion word then Order k else Unknown k)
+unfoldable pub rest_fault : (runs : Bool) → ℕ → List ℕ → WordFault
+rest_fault runs k word = if is_later_layer runs word then NotBuilt k else (if is_plain word || is_onion word then Order k else Unknown k)
 
 unfoldable pub action_fault : List ℕ → Option WordFault
-action_fault word = if bytes_eq word (codes "create") then None else (if is_later_action word then Some (NotBuilt 0) else Some (Unknown 0))
+action_fault word = if is_create word || is_run word then None else (if is_later_action word then Some (NotBuilt 0) else Some (Unknown 0))
 
 -- the first of two
 abbrev pub first_of_two : Option WordFault → Option WordFault → Option WordFault
 first_of_two None other = other
 first_of_two (Some fault) other = Some fault
 
-abbrev pub after_base : List (List ℕ) → Option WordFault
-after_base [] = None
-after_base (word ∷ rest) = Some (rest_fault 2 word)
+abbrev pub after_base : (runs : Bool) → List (List ℕ) → Option WordFault
+after_base runs [] = None
+after_base runs (word ∷ rest) = Some (rest_fault runs 2 word)
 
-abbrev pub after_action : List (List ℕ) → Option WordFault
-after_action [] = Some Missing
-after_action (word ∷ rest) = first_of_two (base_fault 1 word) (after_base rest)
+abbrev pub after_action : (runs : Bool) → List (List ℕ) → Option WordFault
+after_action runs [] = Some Missing
+after_action runs (word ∷ rest) = first_of_two (base_fault runs 1 word) (after_base runs rest)
 
 -- the first fault of the words, none where they are admitted
 abbrev pub word_fault : List (List ℕ) → Option WordFault
 word_fault [] = Some Missing
-word_fault (word ∷ rest) = first_of_two (action_fault word) (after_action rest)
+word_fault (word ∷ rest) = first_of_two (action_fault word) (after_action (is_run word) rest)
+
+-- the words ask for the run of a script
+abbrev pub asks_run : List (List ℕ) → Bool
+asks_run [] = false
+asks_run (word ∷ rest) = is_run word
+
+-- admitted words of a run, and of a creation
+pub record Runs (words : List (List ℕ)) : Type 0 where
+  pub admitted : word_fault words ≡ None
+  pub asked : asks_run words ≡ true
+
+pub record Creates (words : List (List ℕ)) : Type 0 where
+  pub admitted : word_fault words ≡ None
+  pub asked : asks_run words ≡ false
 
 -- the file that admitted words name
 abbrev pub named : List (List ℕ) → List ℕ

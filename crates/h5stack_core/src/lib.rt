@@ -2,8 +2,11 @@
 #![tactic(auto)]
 
 mod creating;
-mod printing;
+mod ending;
+mod files;
+mod looking;
 mod running;
+mod telling;
 mod words;
 
 pub use running::{Finished, run};

@@ -75,7 +75,6 @@ fn refuses_words(rt: HostRuntime) -> Result<(), test::Fail> {
         ("", "usage: missing\n"),
         ("create", "usage: missing\n"),
         ("frob", "usage: unknown 0\n"),
-        ("run plain=a.h5", "usage: not-built 0\n"),
         ("create disk=a.h5", "usage: unknown 1\n"),
         ("create family=f%d.h5,1024", "usage: not-built 1\n"),
         ("create onion=4096 plain=a.h5", "usage: order 1\n"),

@@ -1,0 +1,110 @@
+-- What a run over the space of a plain file is for the file and its store.
+use Rattle.std.proofs.Common.{◌≡◌, ℕ, Bool, true, false, IsTrue, List, [], None, refl, sym, ◌∙◌, subst, inl}
+use Rattle.std.specs.Str.{bytes_eq}
+use Rattle.std.proofs.lemmas.Slice.Eq.{bytes_eq-Decides}
+use Rattle.outside.specs.Array.{Array}
+use Rattle.outside.specs.Blocks.{Bounds}
+use Rattle.outside.specs.Files.{Files, RestsAt}
+use Rattle.outside.specs.Space.{SpaceView, bounds_of}
+use Rattle.outside.specs.Store.{View, Goes}
+use Rattle.outside.proofs.Goes.{goes_on}
+use Rattle.object_model.specs.Step.{Plain}
+use Rattle.file_model.specs.Laws.{one_region}
+use Rattle.plain_space.specs.File.{file_in, view_of}
+use Rattle.stack_mount.proofs.Verdicts.{one_verdict}
+use Rattle.file_model.proofs.NoRefusal as tree
+use Rattle.stack_mount.specs.Mounted.{IsRefused, IsAdmitted, IsLine}
+use Rattle.stack_mount.specs.declared.faults.MountFault.{MountFault}
+use Rattle.stack_mount.specs.declared.faults.MountFault.TheVariants as fault
+use Rattle.h5stack_core.specs.Actions.{HasReason, SameFiles}
+use Rattle.h5stack_core.specs.Files.{Opens, IsRefusedFile, AtMount, InTree, array_in, end_in, unmounted}
+use Rattle.h5stack_core.specs.Runs.{HoldsWithin, IsRefusedTree, RunTo, IfClosed}
+use Rattle.h5stack_core.specs.declared.ending.Refusal.{Refusal}
+use Rattle.h5stack_core.specs.declared.ending.Ending.{Ending}
+use Rattle.h5stack_core.specs.declared.ending.Ending.TheVariants.{Done, SomeNot, Words, Store, Refused, Input, Output, Memory, Limit}
+use Rattle.h5stack_core.proofs.RunLemmas.{run_on}
+
+bounds_seen : (view : SpaceView) (file : List ℕ) (tells : Bool) (v : View) (id end : ℕ) → view ≡ view_of tells v id end [] → end ≡ end_in file → bounds_of view None ≡ one_region (end_in file)
+bounds_seen view file tells v id end is same = (λ k. bounds_of (is k) None) ∙ (λ k. one_region (same k))
+
+-- a run over the space of a file is a run over the file
+pub file_run : (view : SpaceView) (file : List ℕ) (tells : Bool) (v : View) (id end : ℕ) (reads prints : Bool) (script left old new : List ℕ) (e : Ending) → view ≡ view_of tells v id end [] → view.array ≡ array_in file
+    → end ≡ end_in file → IsAdmitted (array_in file) (end_in file) → RunTo (HoldsWithin view.array (bounds_of view None)) (IsRefusedTree view.array (bounds_of view None)) reads prints script left old new e
+    → RunTo (Opens file) (IsRefusedFile file) reads prints script left old new e
+file_run view file tells v id end reads prints script left old new e is array same admitted h =
+    let bounds = bounds_seen view file tells v id end is same in
+    run_on (HoldsWithin view.array (bounds_of view None)) (Opens file) (IsRefusedTree view.array (bounds_of view None)) (IsRefusedFile file) reads prints script left old new e
+    (λ t holds. record { admitted = admitted; held = subst (λ (b : Array). HoldsWithin b (one_region (end_in file)) t) array (subst (λ (f : Bounds). HoldsWithin view.array f t) bounds holds) })
+    (λ r why. InTree admitted (subst (λ (b : Array). IsRefusedTree b (one_region (end_in file)) r) array (subst (λ (f : Bounds). IsRefusedTree view.array f r) bounds why)))
+    h
+
+-- a file that isn't mounted
+pub unmounted_run : (file : List ℕ) (reads prints : Bool) (script old : List ℕ) (f : MountFault) → (IsLine f → IsRefused (array_in file) (end_in file) f)
+    → RunTo (Opens file) (IsRefusedFile file) reads prints script script old old (unmounted f)
+unmounted_run file reads prints script old fault.Absent h = AtMount fault.Absent (h tt) refl
+unmounted_run file reads prints script old (fault.Malformed at kind) h = AtMount (fault.Malformed at kind) (h tt) refl
+unmounted_run file reads prints script old (fault.Unsupported what) h = AtMount (fault.Unsupported what) (h tt) refl
+unmounted_run file reads prints script old (fault.Truncated actual stored) h = AtMount (fault.Truncated actual stored) (h tt) refl
+unmounted_run file reads prints script old fault.Failed h = inl (λ told. refl)
+unmounted_run file reads prints script old fault.NoMemory h = inl (λ told. refl)
+
+goes_wider : (tells : Bool) (P Q : List ℕ → Type 0) (v w : View) → ((q : List ℕ) → P q → Q q) → Goes tells P v w → Goes tells Q v w
+goes_wider tells P Q v w within goes = record {
+  names = goes.names;
+  counts = goes.counts;
+  moment = goes.moment;
+  honest = goes.honest;
+  others = λ told q other. goes.others told q (λ changed. other (within q changed));
+}
+
+-- the store after a mount and a run over the file
+pub file_goes : (tells : Bool) (name : List ℕ) (id : ℕ) (u v w : View) → Goes tells (λ _. ⊥) u v → Goes tells (λ q. q ≡ v.names id) v w → v.names id ≡ name → Goes tells (λ q. q ≡ name) u w
+file_goes tells name id u v w first second named =
+    goes_on tells (λ q. q ≡ name) u v w (goes_wider tells (λ _. ⊥) (λ q. q ≡ name) u v (λ q no. absurd no) first)
+    (goes_wider tells (λ q. q ≡ v.names id) (λ q. q ≡ name) v w (λ q is. is ∙ named) second)
+
+-- the file's bytes before the mount and after the run
+pub same_bytes : (tells : Bool) (name : List ℕ) (id : ℕ) (u v w : View) → IsTrue tells → Goes tells (λ _. ⊥) u v → w.names ≡ v.names → v.names id ≡ name → file_in w id ≡ file_in v id → w.files name ≡ u.files name
+same_bytes tells name id u v w told first names named same =
+    let after : w.files name ≡ file_in w id = sym ((λ k. w.files (names k id)) ∙ (λ k. w.files (named k))) in
+    after ∙ same ∙ (λ k. v.files (named k)) ∙ first.others told name (λ no. no)
+
+-- all files are as they were where the one that may change is
+pub all_same : (tells : Bool) (name : List ℕ) (u w : View) → Goes tells (λ q. q ≡ name) u w → (IsTrue tells → w.files name ≡ u.files name) → SameFiles tells u w
+all_same tells name u w goes here told q = at (bytes_eq q name) refl
+  where
+    at : (b : Bool) → bytes_eq q name ≡ b → w.files q ≡ u.files q
+    at true is = let same : q ≡ name = (bytes_eq-Decides q name).0 is in (λ k. w.files (same k)) ∙ here told ∙ sym (λ k. u.files (same k))
+    at false is = goes.others told q (λ same. let yes : bytes_eq q name ≡ true = (bytes_eq-Decides q name).1 same in cc)
+
+pub closed_on : (e : Ending) (X Y : Type 0) → (X → Y) → IfClosed e X → IfClosed e Y
+closed_on Done X Y on h = on h
+closed_on SomeNot X Y on h = on h
+closed_on (Words fault) X Y on h = tt
+closed_on Store X Y on h = tt
+closed_on (Refused reason) X Y on h = tt
+closed_on Input X Y on h = on h
+closed_on Output X Y on h = on h
+closed_on Memory X Y on h = tt
+closed_on Limit X Y on h = on h
+
+-- what rests as it reads, by the file's name
+pub rests_named : (name file : List ℕ) (id : ℕ) (w : View) (leaves : Files → Type 0) → w.names id ≡ name → w.files name ≡ file → RestsAt (w.names id) (file_in w id) leaves → RestsAt name file leaves
+rests_named name file id w leaves named is rests c left = (λ k. c (sym named k)) ∙ rests c left ∙ (λ k. w.files (named k)) ∙ is
+
+pub reason_on : (F G : Type 0) (i j o p : ℕ) (e : Ending) → (F → G) → HasReason F i j o p e → HasReason G i j o p e
+reason_on F G i j o p Done on h = tt
+reason_on F G i j o p SomeNot on h = tt
+reason_on F G i j o p (Words fault) on h = tt
+reason_on F G i j o p Store on h = on h
+reason_on F G i j o p (Refused why) on h = tt
+reason_on F G i j o p Input on h = h
+reason_on F G i j o p Output on h = h
+reason_on F G i j o p Memory on h = tt
+reason_on F G i j o p Limit on h = tt
+
+-- a file that is opened is refused by no line
+pub opens_refused_by_none : (file : List ℕ) (t : Plain) (r : Refusal) → Opens file t → IsRefusedFile file r → ⊥
+opens_refused_by_none file t r opens (AtMount f is same) = one_verdict (array_in file) (end_in file) f is opens.admitted
+opens_refused_by_none file t r opens (InTree admitted why) =
+    tree.not_refused_file (array_in file) (one_region (end_in file)) opens.held.superblock opens.held.root opens.held.links opens.held.full why.0 opens.held.within why.1

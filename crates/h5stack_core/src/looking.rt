@@ -1,0 +1,131 @@
+ghost use Rattle.std.specs.Prelude.{◌≡◌, ◌⊎◌, ◌≤◌, ℕ, IsTrue, None};
+ghost use Rattle.outside.specs.Causes.{Rose};
+ghost use Rattle.outside.specs.Space.{bounds_of};
+ghost use Rattle.h5_base.specs.declared.extent.MemClass.TheVariants as class;
+ghost use Rattle.object_model.specs.Step.{Plain};
+ghost use Rattle.object_tree.specs.Sound.{IsSoundTree};
+ghost use Rattle.tree_answers.specs.Shown.{IsTreeOf};
+ghost use Rattle.h5stack_core.specs.Actions.{HasReason, fault_in};
+ghost use Rattle.h5stack_core.specs.Runs.{HoldsWithin, IsRefusedTree, RunTo, Answers, IfRefused, IfClosed, IsOfScript, unopened};
+
+use crate::ending::{Ending, Refusal};
+use block_space::Blocks;
+use object_tree::{ObjectTree, TreeStop, open_tree};
+use outside::{Sink, Source, Space};
+use script_run::{Ended, ScriptStop, answer_script};
+use std::alloc::Global;
+
+/// A space over which a script was run, and how that ended.
+#[derive(Drop)]
+pub struct Looked<V> {
+    pub space: V,
+    pub ending: Ending,
+}
+
+// How a run ends whose tree wasn't opened.
+fn unopened(stop: TreeStop) -> Ending
+    ensures { result ≡ unopened stop }
+{
+    match stop {
+        TreeStop::Malformed { at, kind } => Ending::Refused {
+            why: Refusal::Malformed { at, kind },
+        },
+        TreeStop::LinkedTwice { at } => Ending::Refused {
+            why: Refusal::LinkedTwice { at },
+        },
+        TreeStop::Overlap { at } => Ending::Refused {
+            why: Refusal::Overlap { at },
+        },
+        TreeStop::TooDeep => Ending::Refused {
+            why: Refusal::TooDeep,
+        },
+        TreeStop::TooMany => Ending::Refused {
+            why: Refusal::TooMany,
+        },
+        TreeStop::Unsupported { what } => Ending::Refused {
+            why: Refusal::Unsupported { what },
+        },
+        TreeStop::Failed => Ending::Store,
+        TreeStop::NoMemory => Ending::Memory,
+    }
+}
+
+// Answers each line of a script over a tree.
+fn answer_lines<I: Source, O: Sink>(
+    alloc: Global,
+    tree: &ObjectTree,
+    input: &mut I,
+    out: &mut O,
+) -> Ending
+    requires { IsSoundTree tree.now }
+    ensures answers { (t : Plain) → IsTreeOf tree.now t → Answers I.tells O.tells t (I.left input.old) (I.left input.new) (O.written out.old) (O.written out.new) result }
+    ensures reason { HasReason ⊥ (I.faults input.old) (I.faults input.new) (O.faults out.old) (O.faults out.new) result }
+    ensures input { I.faults input.old ≤ I.faults input.new }
+    ensures output { O.faults out.old ≤ O.faults out.new }
+    ensures run { IsOfScript result }
+{
+    match answer_script(alloc, tree, input, out) {
+        Ok(Ended::AllDone) => Ending::Done,
+        Ok(Ended::SomeNot) => Ending::SomeNot,
+        Err(ScriptStop::Input) => Ending::Input,
+        Err(ScriptStop::Output) => Ending::Output,
+        Err(ScriptStop::Limit) => Ending::Limit,
+        Err(ScriptStop::Memory) => Ending::Memory,
+    }
+}
+
+// Makes the files of a space last at the end of a run.
+fn close<V: Space>(space: &mut V, ending: Ending) -> Ending
+    requires stands { V.Stands space.old }
+    requires writable { IsTrue (V.view space.old).writable }
+    ensures ending { (result ≡ ending) ⊎ (result ≡ Ending.Store) }
+    ensures rests { (result ≡ Ending.Store) ⊎ V.Rests space.new }
+    ensures goes { V.GoesOn space.old space.new }
+    ensures array { IsTrue V.tells → (V.view space.new).array ≡ (V.view space.old).array }
+    ensures ends { (V.view space.new).ends ≡ (V.view space.old).ends }
+    ensures later { V.faults space.old ≤ V.faults space.new }
+    ensures fault { result ≡ Ending.Store → (ending ≡ Ending.Store) ⊎ Rose (V.faults space.old) (V.faults space.new) ⊎ Rose (V.copy_faults space.old) (V.copy_faults space.new) }
+{
+    match space.settle() {
+        Ok(()) => ending,
+        Err(_) => Ending::Store,
+    }
+}
+
+/// Runs a script over a space: opens the tree of its file, answers each line, and makes the file last. Where the tree isn't
+/// opened, the script isn't read, and nothing is printed.
+pub fn look<V: Space, I: Source, O: Sink>(
+    alloc: Global,
+    space: V,
+    input: &mut I,
+    out: &mut O,
+) -> Looked<V>
+    requires stands { V.Stands space }
+    requires first { ((V.view space).regions class.Super).start ≡ 0 }
+    requires writable { IsTrue (V.view space).writable }
+    ensures run { IsTrue V.tells → RunTo (HoldsWithin (V.view space).array (bounds_of (V.view space) None)) (IsRefusedTree (V.view space).array (bounds_of (V.view space) None))
+        I.tells O.tells (I.left input.old) (I.left input.new) (O.written out.old) (O.written out.new) result.ending }
+    ensures unread { IfRefused result.ending (input.new ≡ input.old) }
+    ensures silent { IfRefused result.ending (out.new ≡ out.old) }
+    ensures reason { HasReason (Rose (V.faults space) (V.faults result.space) ⊎ ((before : ℕ) × Rose before (V.copy_faults result.space)))
+        (I.faults input.old) (I.faults input.new) (O.faults out.old) (O.faults out.new) result.ending }
+    ensures goes { V.GoesOn space result.space }
+    ensures array { IsTrue V.tells → (V.view result.space).array ≡ (V.view space).array }
+    ensures ends { (V.view result.space).ends ≡ (V.view space).ends }
+    ensures rests { IfClosed result.ending (V.Rests result.space) }
+    ensures fault { fault_in result.ending ≡ None }
+{
+    let mut blocks = Blocks::new(alloc, space);
+    match open_tree(alloc, &mut blocks) {
+        Ok(tree) => {
+            let ending = answer_lines(alloc, &tree, input, out);
+            let mut space = blocks.finish();
+            let ending = close(&mut space, ending);
+            Looked { space, ending }
+        }
+        Err(stop) => Looked {
+            space: blocks.finish(),
+            ending: unopened(stop),
+        },
+    }
+}
