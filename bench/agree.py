@@ -8,7 +8,6 @@ import re
 import subprocess
 import sys
 import tempfile
-import time
 
 import h5py
 import numpy
@@ -110,13 +109,11 @@ def compare(program, path):
 
 
 def timed(words, cwd, script=b""):
-    begin = time.time()
-    pid = subprocess.Popen(words, cwd=cwd, stdin=subprocess.PIPE, stdout=subprocess.DEVNULL)
-    pid.stdin.write(script)
-    pid.stdin.close()
-    _, status, used = os.wait4(pid.pid, 0)
-    pid.returncode = status
-    return time.time() - begin, used.ru_maxrss / 1024
+    """Seconds and megabytes of one run, by GNU time: a child of this program would count this program's own memory."""
+    told = os.path.join(cwd, "told")
+    subprocess.run(["/usr/bin/time", "-o", told, "-f", "%e %M", *words], cwd=cwd, input=script, stdout=subprocess.DEVNULL, check=True)
+    seconds, kilobytes = open(told).read().split()
+    return float(seconds), int(kilobytes) / 1024
 
 
 def large(program, folder):
