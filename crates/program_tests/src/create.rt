@@ -1,4 +1,4 @@
-// `create plain=F`.
+// `create plain=F`, and words that are refused.
 use crate::runs::{empty_store, name, run_words};
 use mem_store::{Fail, Op};
 use std::test;
@@ -75,6 +75,15 @@ fn refuses_words(rt: HostRuntime) -> Result<(), test::Fail> {
         ("", "usage: missing\n"),
         ("create", "usage: missing\n"),
         ("frob", "usage: unknown 0\n"),
+        ("run", "usage: missing\n"),
+        ("run onion=4096 plain=a.h5", "usage: not-built 1\n"),
+        (
+            "run splitter=w.h5,strict plain=a.h5",
+            "usage: not-built 1\n",
+        ),
+        ("run plain=a/b", "usage: name 1\n"),
+        ("run plain=a.h5 plain=b.h5", "usage: order 2\n"),
+        ("attach plain=a.h5", "usage: not-built 0\n"),
         ("create disk=a.h5", "usage: unknown 1\n"),
         ("create family=f%d.h5,1024", "usage: not-built 1\n"),
         ("create onion=4096 plain=a.h5", "usage: order 1\n"),

@@ -5,3 +5,5 @@
 mod create;
 #[cfg(test)]
 mod runs;
+#[cfg(test)]
+mod scripts;
