@@ -5,8 +5,6 @@ mod answers;
 pub mod laws;
 mod nodes;
 mod paths;
-#[cfg(test)]
-mod tests;
 
 pub use answers::answer;
 pub use object_model::{Answer, Command};
