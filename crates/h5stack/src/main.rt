@@ -2,15 +2,11 @@
 #![tactic(auto)]
 
 mod arguments;
-mod entry;
-mod folder;
-mod terminal;
 
-use folder::DirStore;
 use h5stack_core::run;
+use real_ports::{DirStore, StdSink, StdSource, SysClock};
 use std::fs::File;
 use std::process::ExitCode;
-use terminal::{StdSink, StdSource, SysClock};
 
 /// Ends with the status of `run`; with 8 where there is no memory for the words.
 fn main(rt: HostRuntime) -> ExitCode {
@@ -30,7 +26,7 @@ fn main(rt: HostRuntime) -> ExitCode {
     let mut out = StdSink::new(rt.stdout());
     let mut err = StdSink::new(rt.stderr());
     let mut clock = SysClock::new(rt);
-    let store = DirStore::new(rt);
+    let store = DirStore::new(rt, "./");
     let finished = run(
         alloc, &words, store, &mut input, &mut out, &mut err, &mut clock,
     );

@@ -15,10 +15,11 @@ enum Seen {
     Open(File),
 }
 
-/// A file of the current folder, looked for once, when something is first asked of it. One that was absent then stays
+/// A file of the folder, looked for once, when something is first asked of it. One that was absent then stays
 /// so until this run makes it; that fails where another program has made it since.
 #[derive(Drop)]
 pub struct Entry {
+    folder: &'static str,
     path: String,
     seen: Seen,
     /// This run made the file, and the folder wasn't synced since then.
@@ -55,8 +56,9 @@ fn read_whole(file: &File, at: u64, out: &mut [u8]) -> io::Result<usize>
 }
 
 impl Entry {
-    pub fn new(path: String) -> Entry {
+    pub fn new(folder: &'static str, path: String) -> Entry {
         Entry {
+            folder,
             path,
             seen: Seen::Nothing,
             is_new: false,
@@ -131,7 +133,7 @@ impl Entry {
             Seen::Nothing | Seen::Absent => {}
         }
         if self.is_new {
-            File::open(rt, ".")?.sync_all()?;
+            File::open(rt, self.folder)?.sync_all()?;
             self.is_new = false;
         }
         Ok(())
