@@ -45,6 +45,10 @@ file_of names contents name = slice_index_or contents (place_of name names) []
 abbrev pub faults_at : List ℕ → Held → ℕ
 faults_at name h = slice_index h.faults (place_of name h.names)
 
+-- the calls of a kind on the file with a name, 0 where there is none
+abbrev pub calls_at : List ℕ → Op → Held → ℕ
+calls_at name op h = made op (slice_index_or h.tallies (place_of name h.names) no_calls)
+
 -- what it tells as a store
 unfoldable pub view : Held → View
 view h = record {

@@ -71,7 +71,7 @@ fn table_of(alloc: Global, files: Vec<NamedBytes>) -> Result<Table, NoMemory>
 
 impl MemStore {
     ghost use Rattle.mem_store.specs.Memory.{held};
-    ghost use Rattle.mem_store.specs.Held.{IsListed, IsLate, IsFull, counted, struck, after_fault, after_write, after_set_len, asked, after_file_fault, added, content, Looks, Changes, IsNew, view, faults_at};
+    ghost use Rattle.mem_store.specs.Held.{IsListed, IsLate, IsFull, counted, struck, after_fault, after_write, after_set_len, asked, after_file_fault, added, content, Looks, Changes, IsNew, view, faults_at, calls_at};
     ghost use Rattle.std.specs.List.{sum_by};
     ghost use Rattle.std.specs.Prelude.{true, false, None, Option};
     ghost use Rattle.mem_store.specs.Table.{lens_of, place_of};
@@ -120,6 +120,16 @@ impl MemStore {
     {
         match self.table.find(name) {
             Some(i) => self.table.faults_at(i),
+            None => 0,
+        }
+    }
+
+    /// The calls of a kind on a file so far, 0 where there is none.
+    pub fn calls(&self, name: &Name, op: Op) -> u64
+        ensures { result ≡ calls_at name.now op (held self.now) }
+    {
+        match self.table.find(name) {
+            Some(i) => self.table.tally(i).of(op),
             None => 0,
         }
     }

@@ -1,0 +1,218 @@
+use crate::came::Came;
+use crate::named::Named;
+use crate::texts::Texts;
+use crate::wanted::{Check, Left, Wanted};
+use std::alloc::Global;
+use std::fmt;
+use std::mem::replace;
+
+/// What differs, first as it was wanted and then as it came.
+#[derive(Drop)]
+pub enum What {
+    Out(Texts),
+    Err(Texts),
+    Status(Vec<u8>, u8),
+    /// How many bytes of the script were not taken.
+    Unread(usize, usize),
+    /// How many bytes a file has.
+    Len(usize, usize),
+    /// The byte at an address, where there is one.
+    Byte(usize, u8, Option<u8>),
+    /// How many calls were made, at most and really.
+    Calls(u64, u64),
+}
+
+/// The first difference of a run.
+#[derive(Drop)]
+pub struct Difference {
+    /// The line of the case that says what was wanted.
+    pub line: usize,
+    /// The place of the file among those of the case, where one differs.
+    pub file: Option<usize>,
+    pub what: What,
+}
+
+fn show_statuses<W: fmt::Write>(f: &mut fmt::Formatter<W>, wanted: &[u8], came: u8) -> fmt::Result {
+    write!(f, "status: wanted")?;
+    for status in wanted {
+        write!(f, " {}", *status)?;
+    }
+    write!(f, ", came {came}")
+}
+
+impl fmt::Display for What {
+    fn fmt<W: fmt::Write>(&self, f: &mut fmt::Formatter<W>) -> fmt::Result {
+        match self {
+            What::Out(texts) => write!(f, "output: {texts}"),
+            What::Err(texts) => write!(f, "standard error: {texts}"),
+            What::Status(a, b) => show_statuses(f, a.as_slice(), *b),
+            What::Unread(a, b) => write!(f, "bytes not taken: wanted {a}, came {b}"),
+            What::Len(a, b) => write!(f, "bytes of the file: wanted {a}, came {b}"),
+            What::Byte(at, a, Some(b)) => write!(f, "at {at}: wanted {a:02X}, came {b:02X}"),
+            What::Byte(at, a, None) => write!(f, "at {at}: wanted {a:02X}, came the end"),
+            What::Calls(a, b) => write!(f, "calls: wanted at most {a}, came {b}"),
+        }
+    }
+}
+
+// Takes two texts out of their places where they differ.
+fn texts(alloc: Global, wanted: &mut Vec<u8>, came: &mut Vec<u8>) -> Option<Texts> {
+    if wanted.as_slice() == came.as_slice() {
+        return None;
+    }
+    Some(Texts {
+        wanted: replace(wanted, Vec::new(alloc)),
+        came: replace(came, Vec::new(alloc)),
+    })
+}
+
+// Where the bytes from `at` on differ first.
+fn bytes_difference(at: usize, wanted: &[u8], came: &[u8]) -> Option<What> {
+    for (i, a) in wanted.iter().enumerate() {
+        let place = at.saturating_add(i);
+        let b = came.get(place).copied();
+        if b != Some(*a) {
+            return Some(What::Byte(place, *a, b));
+        }
+    }
+    None
+}
+
+fn whole_difference(wanted: &[u8], came: &[u8]) -> Option<What> {
+    if wanted == came {
+        return None;
+    }
+    if wanted.len() != came.len() {
+        return Some(What::Len(wanted.len(), came.len()));
+    }
+    bytes_difference(0, wanted, came)
+}
+
+fn check_difference(check: &Check, before: &[u8], came: &[u8]) -> Option<What> {
+    match check {
+        Check::Len(n) if *n != came.len() => Some(What::Len(*n, came.len())),
+        Check::Len(_) => None,
+        Check::At(at, bytes) => bytes_difference(*at, bytes.as_slice(), came),
+        Check::Is(bytes) => whole_difference(bytes.as_slice(), came),
+        Check::Same => whole_difference(before, came),
+    }
+}
+
+fn is_checked(left: &[Left], file: usize) -> bool {
+    for it in left {
+        if it.file == file {
+            return true;
+        }
+    }
+    false
+}
+
+// A file of which nothing is said has to be as it was.
+fn silent_difference(wanted: &Wanted, before: &[Named], files: &[Named]) -> Option<Difference> {
+    for (i, (file, was)) in files.iter().zip(before.iter()).enumerate() {
+        if is_checked(wanted.left.as_slice(), i) {
+            continue;
+        }
+        if let Some(what) = whole_difference(was.bytes.as_slice(), file.bytes.as_slice()) {
+            return Some(Difference {
+                line: wanted.line,
+                file: Some(i),
+                what,
+            });
+        }
+    }
+    None
+}
+
+fn left_difference(left: &Left, before: &[Named], files: &[Named]) -> Option<Difference> {
+    let was = before.get(left.file)?;
+    let file = files.get(left.file)?;
+    let what = check_difference(&left.check, was.bytes.as_slice(), file.bytes.as_slice())?;
+    Some(Difference {
+        line: left.line,
+        file: Some(left.file),
+        what,
+    })
+}
+
+fn checked_difference(wanted: &Wanted, before: &[Named], files: &[Named]) -> Option<Difference> {
+    for left in &wanted.left {
+        let found = left_difference(left, before, files);
+        if found.is_some() {
+            return found;
+        }
+    }
+    None
+}
+
+fn calls_difference(wanted: &Wanted, calls: &[u64]) -> Option<Difference> {
+    for (limit, made) in wanted.limits.iter().zip(calls.iter()) {
+        if *made > limit.most {
+            return Some(Difference {
+                line: limit.line,
+                file: Some(limit.file),
+                what: What::Calls(limit.most, *made),
+            });
+        }
+    }
+    None
+}
+
+fn text_difference(alloc: Global, wanted: &mut Wanted, came: &mut Came) -> Option<Difference> {
+    if wanted.statuses.len() > 1 {
+        return None;
+    }
+    if let Some(texts) = texts(alloc, &mut wanted.out, &mut came.out) {
+        let line = wanted.out_lines.get(texts.line()).copied();
+        return Some(Difference {
+            line: line.unwrap_or(wanted.line),
+            file: None,
+            what: What::Out(texts),
+        });
+    }
+    let texts = texts(alloc, &mut wanted.err, &mut came.err)?;
+    Some(Difference {
+        line: wanted.line,
+        file: None,
+        what: What::Err(texts),
+    })
+}
+
+fn status_difference(alloc: Global, wanted: &mut Wanted, came: &Came) -> Option<Difference> {
+    let what = if !wanted.statuses.contains(&came.status) {
+        What::Status(replace(&mut wanted.statuses, Vec::new(alloc)), came.status)
+    } else {
+        let unread = wanted.unread?;
+        if unread == came.unread {
+            return None;
+        }
+        What::Unread(unread, came.unread)
+    };
+    Some(Difference {
+        line: wanted.line,
+        file: None,
+        what,
+    })
+}
+
+/// The first difference between what was wanted of a run and what came of it, over files as they were before.
+pub fn compare(
+    alloc: Global,
+    wanted: &mut Wanted,
+    came: &mut Came,
+    before: &[Named],
+) -> Option<Difference> {
+    if let Some(found) = text_difference(alloc, wanted, came) {
+        return Some(found);
+    }
+    if let Some(found) = status_difference(alloc, wanted, came) {
+        return Some(found);
+    }
+    if let Some(found) = checked_difference(wanted, before, came.files.as_slice()) {
+        return Some(found);
+    }
+    if let Some(found) = silent_difference(wanted, before, came.files.as_slice()) {
+        return Some(found);
+    }
+    calls_difference(wanted, came.calls.as_slice())
+}
