@@ -1,12 +1,12 @@
-use crate::came::Came;
 use crate::named::Named;
+use crate::outcome::Outcome;
 use crate::texts::Texts;
 use crate::wanted::{Check, Left, Wanted};
 use std::alloc::Global;
 use std::fmt;
 use std::mem::replace;
 
-/// What differs, first as it was wanted and then as it came.
+/// What differs, first what was wanted and then what the run gave.
 #[derive(Drop)]
 pub enum What {
     Out(Texts),
@@ -32,12 +32,12 @@ pub struct Difference {
     pub what: What,
 }
 
-fn show_statuses<W: fmt::Write>(f: &mut fmt::Formatter<W>, wanted: &[u8], came: u8) -> fmt::Result {
+fn show_statuses<W: fmt::Write>(f: &mut fmt::Formatter<W>, wanted: &[u8], got: u8) -> fmt::Result {
     write!(f, "status: wanted")?;
     for status in wanted {
         write!(f, " {}", *status)?;
     }
-    write!(f, ", came {came}")
+    write!(f, ", got {got}")
 }
 
 impl fmt::Display for What {
@@ -46,31 +46,31 @@ impl fmt::Display for What {
             What::Out(texts) => write!(f, "output: {texts}"),
             What::Err(texts) => write!(f, "standard error: {texts}"),
             What::Status(a, b) => show_statuses(f, a.as_slice(), *b),
-            What::Unread(a, b) => write!(f, "bytes not taken: wanted {a}, came {b}"),
-            What::Len(a, b) => write!(f, "bytes of the file: wanted {a}, came {b}"),
-            What::Byte(at, a, Some(b)) => write!(f, "at {at}: wanted {a:02X}, came {b:02X}"),
-            What::Byte(at, a, None) => write!(f, "at {at}: wanted {a:02X}, came the end"),
-            What::Calls(a, b) => write!(f, "calls: wanted at most {a}, came {b}"),
+            What::Unread(a, b) => write!(f, "bytes not taken: wanted {a}, got {b}"),
+            What::Len(a, b) => write!(f, "bytes of the file: wanted {a}, got {b}"),
+            What::Byte(at, a, Some(b)) => write!(f, "at {at}: wanted {a:02X}, got {b:02X}"),
+            What::Byte(at, a, None) => write!(f, "at {at}: wanted {a:02X}, got the end"),
+            What::Calls(a, b) => write!(f, "calls: wanted at most {a}, got {b}"),
         }
     }
 }
 
 // Takes two texts out of their places where they differ.
-fn texts(alloc: Global, wanted: &mut Vec<u8>, came: &mut Vec<u8>) -> Option<Texts> {
-    if wanted.as_slice() == came.as_slice() {
+fn texts(alloc: Global, wanted: &mut Vec<u8>, got: &mut Vec<u8>) -> Option<Texts> {
+    if wanted.as_slice() == got.as_slice() {
         return None;
     }
     Some(Texts {
         wanted: replace(wanted, Vec::new(alloc)),
-        came: replace(came, Vec::new(alloc)),
+        got: replace(got, Vec::new(alloc)),
     })
 }
 
 // Where the bytes from `at` on differ first.
-fn bytes_difference(at: usize, wanted: &[u8], came: &[u8]) -> Option<What> {
+fn bytes_difference(at: usize, wanted: &[u8], got: &[u8]) -> Option<What> {
     for (i, a) in wanted.iter().enumerate() {
         let place = at.saturating_add(i);
-        let b = came.get(place).copied();
+        let b = got.get(place).copied();
         if b != Some(*a) {
             return Some(What::Byte(place, *a, b));
         }
@@ -78,23 +78,23 @@ fn bytes_difference(at: usize, wanted: &[u8], came: &[u8]) -> Option<What> {
     None
 }
 
-fn whole_difference(wanted: &[u8], came: &[u8]) -> Option<What> {
-    if wanted == came {
+fn whole_difference(wanted: &[u8], got: &[u8]) -> Option<What> {
+    if wanted == got {
         return None;
     }
-    if wanted.len() != came.len() {
-        return Some(What::Len(wanted.len(), came.len()));
+    if wanted.len() != got.len() {
+        return Some(What::Len(wanted.len(), got.len()));
     }
-    bytes_difference(0, wanted, came)
+    bytes_difference(0, wanted, got)
 }
 
-fn check_difference(check: &Check, before: &[u8], came: &[u8]) -> Option<What> {
+fn check_difference(check: &Check, before: &[u8], got: &[u8]) -> Option<What> {
     match check {
-        Check::Len(n) if *n != came.len() => Some(What::Len(*n, came.len())),
+        Check::Len(n) if *n != got.len() => Some(What::Len(*n, got.len())),
         Check::Len(_) => None,
-        Check::At(at, bytes) => bytes_difference(*at, bytes.as_slice(), came),
-        Check::Is(bytes) => whole_difference(bytes.as_slice(), came),
-        Check::Same => whole_difference(before, came),
+        Check::At(at, bytes) => bytes_difference(*at, bytes.as_slice(), got),
+        Check::Is(bytes) => whole_difference(bytes.as_slice(), got),
+        Check::Same => whole_difference(before, got),
     }
 }
 
@@ -158,11 +158,11 @@ fn calls_difference(wanted: &Wanted, calls: &[u64]) -> Option<Difference> {
     None
 }
 
-fn text_difference(alloc: Global, wanted: &mut Wanted, came: &mut Came) -> Option<Difference> {
+fn text_difference(alloc: Global, wanted: &mut Wanted, got: &mut Outcome) -> Option<Difference> {
     if wanted.statuses.len() > 1 {
         return None;
     }
-    if let Some(texts) = texts(alloc, &mut wanted.out, &mut came.out) {
+    if let Some(texts) = texts(alloc, &mut wanted.out, &mut got.out) {
         let line = wanted.out_lines.get(texts.line()).copied();
         return Some(Difference {
             line: line.unwrap_or(wanted.line),
@@ -170,7 +170,7 @@ fn text_difference(alloc: Global, wanted: &mut Wanted, came: &mut Came) -> Optio
             what: What::Out(texts),
         });
     }
-    let texts = texts(alloc, &mut wanted.err, &mut came.err)?;
+    let texts = texts(alloc, &mut wanted.err, &mut got.err)?;
     Some(Difference {
         line: wanted.line,
         file: None,
@@ -178,15 +178,15 @@ fn text_difference(alloc: Global, wanted: &mut Wanted, came: &mut Came) -> Optio
     })
 }
 
-fn status_difference(alloc: Global, wanted: &mut Wanted, came: &Came) -> Option<Difference> {
-    let what = if !wanted.statuses.contains(&came.status) {
-        What::Status(replace(&mut wanted.statuses, Vec::new(alloc)), came.status)
+fn status_difference(alloc: Global, wanted: &mut Wanted, got: &Outcome) -> Option<Difference> {
+    let what = if !wanted.statuses.contains(&got.status) {
+        What::Status(replace(&mut wanted.statuses, Vec::new(alloc)), got.status)
     } else {
         let unread = wanted.unread?;
-        if unread == came.unread {
+        if unread == got.unread {
             return None;
         }
-        What::Unread(unread, came.unread)
+        What::Unread(unread, got.unread)
     };
     Some(Difference {
         line: wanted.line,
@@ -195,24 +195,24 @@ fn status_difference(alloc: Global, wanted: &mut Wanted, came: &Came) -> Option<
     })
 }
 
-/// The first difference between what was wanted of a run and what came of it, over files as they were before.
+/// The first difference between what was wanted of a run and what it gave, over files as they were before.
 pub fn compare(
     alloc: Global,
     wanted: &mut Wanted,
-    came: &mut Came,
+    got: &mut Outcome,
     before: &[Named],
 ) -> Option<Difference> {
-    if let Some(found) = text_difference(alloc, wanted, came) {
+    if let Some(found) = text_difference(alloc, wanted, got) {
         return Some(found);
     }
-    if let Some(found) = status_difference(alloc, wanted, came) {
+    if let Some(found) = status_difference(alloc, wanted, got) {
         return Some(found);
     }
-    if let Some(found) = checked_difference(wanted, before, came.files.as_slice()) {
+    if let Some(found) = checked_difference(wanted, before, got.files.as_slice()) {
         return Some(found);
     }
-    if let Some(found) = silent_difference(wanted, before, came.files.as_slice()) {
+    if let Some(found) = silent_difference(wanted, before, got.files.as_slice()) {
         return Some(found);
     }
-    calls_difference(wanted, came.calls.as_slice())
+    calls_difference(wanted, got.calls.as_slice())
 }

@@ -1,4 +1,3 @@
-use crate::came::Came;
 use crate::differing::{Difference, compare};
 use crate::edits::edit;
 use crate::given::{Given, op_of};
@@ -6,6 +5,7 @@ use crate::in_folder::run_in_folder;
 use crate::in_memory::run_in_memory;
 use crate::items::split_word;
 use crate::named::{Named, place_of};
+use crate::outcome::Outcome;
 use crate::stop::Stop;
 use crate::wanted::{Wanted, check_of};
 use h5_base::Name;
@@ -230,35 +230,35 @@ impl Case {
 
     fn make_runs(&mut self, mut given: Given, mut wanted: Wanted) -> Result<(), Stop> {
         let limits = wanted.limits.as_slice();
-        let mut came = run_in_memory(self.alloc, &mut given, self.files.as_slice(), limits)?;
-        self.keep(&wanted, &came)?;
-        let found = compare(self.alloc, &mut wanted, &mut came, self.files.as_slice());
+        let mut got = run_in_memory(self.alloc, &mut given, self.files.as_slice(), limits)?;
+        self.keep(&wanted, &got)?;
+        let found = compare(self.alloc, &mut wanted, &mut got, self.files.as_slice());
         if let Some(found) = found {
             self.found = Some((Place::Memory, found));
         } else if !given.has_faults && !self.in_memory_alone {
-            self.run_again(&given, &mut wanted, &mut came)?;
+            self.run_again(&given, &mut wanted, &mut got)?;
         }
-        self.files = came.files;
+        self.files = got.files;
         Ok(())
     }
 
-    // Makes the run over a folder, where the same has to come of it as in memory.
+    // Makes the run over a folder, which has to give the same as in memory.
     fn run_again(
         &mut self,
         given: &Given,
         wanted: &mut Wanted,
-        came: &mut Came,
+        got: &mut Outcome,
     ) -> Result<(), Stop> {
-        wanted.repeat(self.alloc, came)?;
+        wanted.repeat(self.alloc, got)?;
         let mut again = run_in_folder(&self.rt, given, self.files.as_slice())?;
-        let found = compare(self.alloc, wanted, &mut again, came.files.as_slice());
+        let found = compare(self.alloc, wanted, &mut again, got.files.as_slice());
         self.found = found.map(|found| (Place::Folder, found));
         Ok(())
     }
 
-    fn keep(&mut self, wanted: &Wanted, came: &Came) -> Result<(), Stop> {
+    fn keep(&mut self, wanted: &Wanted, got: &Outcome) -> Result<(), Stop> {
         for keep in &wanted.keeps {
-            if let Some(file) = came.files.get(keep.file) {
+            if let Some(file) = got.files.get(keep.file) {
                 let bytes = file.bytes.as_slice();
                 let kept = Named::copied(self.alloc, keep.name.as_str(), bytes)?;
                 self.kept.push(kept)?;

@@ -1,6 +1,6 @@
-use crate::came::Came;
 use crate::given::Given;
 use crate::named::Named;
+use crate::outcome::Outcome;
 use crate::stop::Stop;
 use h5stack_core::run;
 use mem_store::ListClock;
@@ -112,11 +112,11 @@ fn perform(
     (ended.status, script.len())
 }
 
-// What came of a run over the folder, without the files.
-fn came_of(rt: &HostRuntime, given: &Given) -> Result<Came, Stop> {
+// What a run over the folder gives, without the files.
+fn outcome_of(rt: &HostRuntime, given: &Given) -> Result<Outcome, Stop> {
     let alloc = rt.alloc();
     let clock = ListClock::new(Vec::from_slice(alloc, given.clock.as_slice())?);
-    let mut came = Came {
+    let mut got = Outcome {
         status: 0,
         out: Vec::new(alloc),
         err: Vec::new(alloc),
@@ -124,15 +124,15 @@ fn came_of(rt: &HostRuntime, given: &Given) -> Result<Came, Stop> {
         files: Vec::new(alloc),
         calls: Vec::new(alloc),
     };
-    (came.status, came.unread) = perform(rt.clone()?, given, clock, &mut came.out, &mut came.err);
-    Ok(came)
+    (got.status, got.unread) = perform(rt.clone()?, given, clock, &mut got.out, &mut got.err);
+    Ok(got)
 }
 
 /// Runs over a folder in which nothing but these files stands.
-pub fn run_in_folder(rt: &HostRuntime, given: &Given, files: &[Named]) -> Result<Came, Stop> {
+pub fn run_in_folder(rt: &HostRuntime, given: &Given, files: &[Named]) -> Result<Outcome, Stop> {
     lay_files(rt, files)?;
-    let mut came = came_of(rt, given)?;
-    came.files = fetch_files(rt, files)?;
+    let mut got = outcome_of(rt, given)?;
+    got.files = fetch_files(rt, files)?;
     clear(rt, files)?;
-    Ok(came)
+    Ok(got)
 }

@@ -1,6 +1,6 @@
-use crate::came::Came;
 use crate::given::Given;
 use crate::named::Named;
+use crate::outcome::Outcome;
 use crate::stop::Stop;
 use crate::wanted::Limit;
 use h5_base::{Bytes, Name};
@@ -153,10 +153,10 @@ pub fn run_in_memory(
     given: &mut Given,
     files: &[Named],
     limits: &[Limit],
-) -> Result<Came, Stop> {
+) -> Result<Outcome, Stop> {
     let ports = ports_of(alloc, given, files)?;
     let (status, mut ports) = perform(alloc, &given.words, ports);
-    Ok(Came {
+    Ok(Outcome {
         status,
         out: copy_of(alloc, &ports.out)?,
         err: copy_of(alloc, &ports.err)?,

@@ -1,9 +1,8 @@
 //! Runs the cases of the files `*.case` in the current folder, in the order of their names: each run over a store in memory and,
-//! where no call is to fail, once more over a real folder, where the same has to come of it. An argument is the name of the one
+//! where no call is to fail, once more over a real folder, which has to give the same. An argument is the name of the one
 //! case to run. The last line says how many cases there were and how many differ; the status is 0 where none does, else 1.
 #![tactic(auto)]
 
-mod came;
 mod crowding;
 mod differing;
 mod edits;
@@ -14,6 +13,7 @@ mod in_memory;
 mod items;
 mod named;
 mod nesting;
+mod outcome;
 mod rows;
 mod stop;
 mod suite;

@@ -41,7 +41,7 @@ impl Suite {
         self.ran
     }
 
-    /// How many cases came out otherwise than wanted, and how many lines couldn't be followed.
+    /// How many cases differ from what was wanted, and how many lines couldn't be followed.
     pub fn differ(&self) -> u64 {
         self.differ
     }

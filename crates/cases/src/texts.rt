@@ -1,10 +1,10 @@
 use std::fmt;
 
-/// Two texts that differ: the one that was wanted and the one that came.
+/// Two texts that differ: the one that was wanted and the one that a run gave.
 #[derive(Drop)]
 pub struct Texts {
     pub wanted: Vec<u8>,
-    pub came: Vec<u8>,
+    pub got: Vec<u8>,
 }
 
 /// A line of a text, where the text goes so far.
@@ -12,13 +12,13 @@ pub struct Texts {
 struct Shown<'a>(Option<&'a [u8]>);
 
 // The first place where two texts differ.
-fn first_difference(wanted: &[u8], came: &[u8]) -> usize {
-    for (i, (a, b)) in wanted.iter().zip(came.iter()).enumerate() {
+fn first_difference(wanted: &[u8], got: &[u8]) -> usize {
+    for (i, (a, b)) in wanted.iter().zip(got.iter()).enumerate() {
         if a != b {
             return i;
         }
     }
-    wanted.len().min(came.len())
+    wanted.len().min(got.len())
 }
 
 // How many lines end before a place, and where the line of that place begins.
@@ -54,7 +54,7 @@ fn line_from(text: &[u8], start: usize) -> Option<&[u8]> {
 impl Texts {
     /// The number of the first line that differs, from 0.
     pub fn line(&self) -> usize {
-        let place = first_difference(self.wanted.as_slice(), self.came.as_slice());
+        let place = first_difference(self.wanted.as_slice(), self.got.as_slice());
         let (count, _) = line_start(self.wanted.as_slice(), place);
         count
     }
@@ -85,10 +85,10 @@ impl<'a> fmt::Display for Shown<'a> {
 
 impl fmt::Display for Texts {
     fn fmt<W: fmt::Write>(&self, f: &mut fmt::Formatter<W>) -> fmt::Result {
-        let place = first_difference(self.wanted.as_slice(), self.came.as_slice());
+        let place = first_difference(self.wanted.as_slice(), self.got.as_slice());
         let (_, start) = line_start(self.wanted.as_slice(), place);
         let wanted = Shown(line_from(self.wanted.as_slice(), start));
-        let came = Shown(line_from(self.came.as_slice(), start));
-        write!(f, "wanted: {wanted}, came: {came}")
+        let got = Shown(line_from(self.got.as_slice(), start));
+        write!(f, "wanted: {wanted}, got: {got}")
     }
 }

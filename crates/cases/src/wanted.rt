@@ -1,6 +1,6 @@
-use crate::came::Came;
 use crate::items::{add_items, count, number, split_word};
 use crate::named::{Named, bytes_of};
+use crate::outcome::Outcome;
 use crate::stop::Stop;
 use mem_store::Op;
 use std::alloc::Global;
@@ -130,13 +130,13 @@ impl Wanted {
         Ok(self.keeps.push(Keep { file, name })?)
     }
 
-    /// Wants of the next run what came of this one. Files have to be as this one left them.
-    pub fn repeat(&mut self, alloc: Global, came: &mut Came) -> Result<(), Stop> {
+    /// Wants of the next run what this one gave. Files have to be as this one left them.
+    pub fn repeat(&mut self, alloc: Global, got: &mut Outcome) -> Result<(), Stop> {
         self.statuses.clear();
-        self.statuses.push(came.status)?;
-        self.out = replace(&mut came.out, Vec::new(alloc));
-        self.err = replace(&mut came.err, Vec::new(alloc));
-        self.unread = Some(came.unread);
+        self.statuses.push(got.status)?;
+        self.out = replace(&mut got.out, Vec::new(alloc));
+        self.err = replace(&mut got.err, Vec::new(alloc));
+        self.unread = Some(got.unread);
         self.left = Vec::new(alloc);
         self.limits = Vec::new(alloc);
         Ok(())

@@ -1,8 +1,8 @@
 use crate::named::Named;
 
-/// What came of a run.
+/// What a run gave.
 #[derive(Drop)]
-pub struct Came {
+pub struct Outcome {
     pub status: u8,
     pub out: Vec<u8>,
     pub err: Vec<u8>,
