@@ -122,8 +122,9 @@ fn add_objects(objects: u64, bytes: &mut Vec<u8>) -> Result<(), AllocError> {
     Ok(())
 }
 
-/// Makes a file whose root has so many links, from `aaaa` on, each to an object of its own: the nodes stand from 328400 on, each
-/// 81,928 bytes, and the objects behind them, each 16 bytes. 65,536 are with the root one object more than a file may have.
+/// Makes a file whose root has so many links, from `aaaa` on, each to an object of its own: the nodes stand from 328400
+/// on, each 81,928 bytes, and the objects behind them, each 16 bytes. 65,536 are with the root one object more than a
+/// file may have.
 pub fn crowd(alloc: Global, objects: &str, bytes: &mut Vec<u8>) -> Result<(), Stop> {
     let objects = number(objects)?;
     if objects > MOST {

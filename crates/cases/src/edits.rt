@@ -43,8 +43,8 @@ fn set_len(bytes: &mut Vec<u8>, text: &str) -> Result<(), Stop> {
     Ok(bytes.resize(len, 0)?)
 }
 
-/// Makes an edit: `from NAME`, `data FILE`, `nested N` and `crowd N` put other bytes in the place of all; `len N`, `at N ITEMS`
-/// and `add ITEMS` change some.
+/// Makes an edit: `from NAME`, `data FILE`, `nested N` and `crowd N` put other bytes in the place of all; `len N`,
+/// `at N ITEMS` and `add ITEMS` change some.
 pub fn edit(
     rt: &HostRuntime,
     line: &str,

@@ -1,6 +1,7 @@
-//! Runs the cases of the files `*.case` in the current folder, in the order of their names: each run over a store in memory and,
-//! where no call is to fail, once more over a real folder, which has to give the same. An argument is the name of the one
-//! case to run. The last line says how many cases there were and how many differ; the status is 0 where none does, else 1.
+//! Runs the cases of the files `*.case` in the current folder, in the order of their names: each run over a store in
+//! memory and, where no call is to fail, once more over a real folder, which has to give the same. An argument is the
+//! name of the one case to run. The last line says how many cases there were and how many differ; the status is 0 where
+//! none does, else 1.
 #![tactic(auto)]
 
 mod crowding;

@@ -47,8 +47,8 @@ fn add_groups(alloc: Global, groups: u64, bytes: &mut Vec<u8>) -> Result<(), Sto
     Ok(())
 }
 
-/// Makes a file of so many groups, each but the root behind a link `a` of the one before it: their headers stand at 96, 336 and
-/// so on, each 240 bytes behind the last. The last group has no links.
+/// Makes a file of so many groups, each but the root behind a link `a` of the one before it: their headers stand at 96,
+/// 336 and so on, each 240 bytes behind the last. The last group has no links.
 pub fn nested(alloc: Global, groups: &str, bytes: &mut Vec<u8>) -> Result<(), Stop> {
     let groups = number(groups)?;
     if groups == 0 || groups > 65_535 {
