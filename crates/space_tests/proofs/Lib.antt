@@ -1,3 +1,0 @@
-pub mod Covered
-pub mod Walked
-pub mod Matched
