@@ -3,4 +3,3 @@ pub mod Apart
 pub mod Listed
 pub mod SixClasses
 pub mod Joined
-pub mod BytesRead

@@ -6,8 +6,3 @@ mod neighbours;
 mod regions;
 
 pub use blocks::{AdoptStop, Blocks};
-
-#[cfg(test)]
-mod memory;
-#[cfg(test)]
-mod tests;

@@ -5,8 +5,6 @@ mod dims;
 mod escapes;
 mod numbers;
 mod shape_codec;
-#[cfg(test)]
-mod tests;
 mod texts;
 mod type_codec;
 mod types;

@@ -5,8 +5,6 @@
 mod fill_codec;
 mod headers;
 mod layout_codec;
-#[cfg(test)]
-mod tests;
 mod types;
 mod writing;
 

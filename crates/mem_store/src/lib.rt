@@ -11,8 +11,6 @@ mod sink;
 mod source;
 mod table;
 mod tally;
-#[cfg(test)]
-mod tests;
 
 pub use clock::ListClock;
 pub use given::{Fail, NamedBytes, Room};

@@ -6,8 +6,6 @@ mod chunk_node;
 mod group_node;
 mod heap;
 mod snod;
-#[cfg(test)]
-mod tests;
 mod tree_head;
 
 pub use chunk_node::{ChunkKey, ChunkNode, chunk_node_size, read_chunk_node, write_chunk_node};

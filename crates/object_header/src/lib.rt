@@ -4,8 +4,6 @@
 
 mod kept;
 mod messages;
-#[cfg(test)]
-mod tests;
 mod types;
 
 pub use messages::Messages;

@@ -11,8 +11,6 @@ mod numbers;
 mod paths;
 mod stop;
 mod symbols;
-#[cfg(test)]
-mod tests;
 mod texts;
 mod types;
 mod values;

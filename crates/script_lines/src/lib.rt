@@ -3,7 +3,5 @@
 
 mod pieces;
 mod reader;
-#[cfg(test)]
-mod tests;
 
 pub use reader::{LineReader, NextLine, ReadStop};

@@ -3,8 +3,6 @@
 
 mod reading;
 mod superblock;
-#[cfg(test)]
-mod tests;
 mod writing;
 
 pub use reading::read_super;

@@ -6,8 +6,6 @@ pub mod laws;
 mod node;
 mod places;
 mod slots;
-#[cfg(test)]
-mod tests;
 mod tree;
 
 pub use node::{ChildLink, Node, NodeId};
