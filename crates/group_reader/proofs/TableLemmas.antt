@@ -1,5 +1,5 @@
 -- A whole table: the heap, and the B-tree from its root on.
-use Rattle.std.proofs.Common.{◌≡◌, ℕ, List, [], ◌∷◌, ◌++◌, Ok, Err, Result, IfSome, IfOk, IfErr, refl, sym, ◌∙◌, ap, subst}
+use Rattle.std.proofs.Common.{◌≡◌, ◌≤◌, ℕ, List, [], ◌∷◌, ◌++◌, Ok, Err, Result, IfSome, IfOk, IfErr, refl, sym, ◌∙◌, ap, subst}
 use Rattle.std.proofs.lemmas.List.{append_assoc}
 use Rattle.outside.specs.Array.{Array, bytes_of}
 use Rattle.outside.specs.Blocks.{Block, placed}
@@ -12,6 +12,7 @@ use Rattle.object_model.specs.Tree.{AreOrdered}
 use Rattle.block_space.specs.Blocks.{Keeps}
 use Rattle.block_space.specs.declared.blocks.Blocks.{Blocks}
 use Rattle.file_model.specs.Groups.{Ks, Found, AreChildren, IsIndex, HasLinks}
+use Rattle.file_model.specs.Limits.{most_segment, IsSmallHeap}
 use Rattle.file_model.specs.Refusals.{IsPlacedRefused}
 use Rattle.file_model.specs.RefusedGroups.{names_of, root_level, AreChildrenRefused, IsIndexRefused, IsTableRefused, SegmentBlock, InNodes, heap_block}
 use Rattle.block_reader.specs.declared.stop.TreeStop.{TreeStop}
@@ -119,6 +120,10 @@ segment_refused view old mid ks tree heap head stop spelled same taken refused =
     let m = met ++ heap_block heap ∷ [] in
     let here = subst (λ (v : SpaceView). IfSome (refusal_of stop) (IsPlacedRefused (bounds_of v own) m head.segment_at head.len kind.Heap)) same (refused m own (taken met keeps)) in
     if_some (refusal_of stop) (IsPlacedRefused e m head.segment_at head.len kind.Heap) (IsTableRefused b e ks met tree heap) (λ r x. SegmentBlock head spelled x) here
+
+-- one header is spelled there, so that its segment is the heap's
+pub small_heap : (b : Array) (heap : ℕ) (head : HeapHead) → SpellsHeap head (bytes_of b heap 32) → head.len ≤ most_segment → IsSmallHeap b heap
+small_heap b heap head spelled small = λ h other. subst (λ (x : HeapHead). x.len ≤ most_segment) (spelled.value ∙ sym other.value) small
 
 -- what is shown of each number is shown of them all
 pub if_ok_each : {T E : Type 0} (r : Result T E) (P Q : ℕ → T → Type 0) → ((n : ℕ) (x : T) → P n x → Q n x) → ((n : ℕ) → IfOk r (P n)) → IfOk r (λ x. (n : ℕ) → Q n x)

@@ -26,3 +26,12 @@ pub returns-then-head-gt-MOST_SEGMENT-clause-refused : goal.returns-then-head-gt
 returns-then-head-gt-MOST_SEGMENT-clause-refused g c = λ tells met own keeps ks tree.
     let bytes = c.deref.ensures.value ∙ c.in-Ok.ensures.bytes tells in
     LargeHeap c.in-Some.head (subst (SpellsHeap c.in-Some.head) bytes c.in-Some.ensures.found) c.if-head-gt-MOST_SEGMENT.true refl
+
+pub returns-clause-found : goal.returns-clause-found
+returns-clause-found g c = λ tells. subst (SpellsHeap c.in-Some.head) (c.deref.ensures.value ∙ c.in-Ok.ensures.bytes tells) c.in-Some.ensures.found
+
+pub returns-clause-small : goal.returns-clause-small
+returns-clause-small g c = c.if-head-gt-MOST_SEGMENT.false
+
+pub returns-clause-taken : goal.returns-clause-taken
+returns-clause-taken g c = c.in-Ok.ensures.found

@@ -1,7 +1,8 @@
-use Rattle.std.proofs.Common.{Err, ap, ◌∙◌}
+use Rattle.std.proofs.Common.{Err, [], ◌∷◌, ◌++◌, ap, ◌∙◌}
 use Rattle.outside.specs.Space.{bounds_of}
 use Rattle.block_space.specs.Blocks.{space_of}
 use Rattle.block_reader.specs.Stops.{refusal_of}
+use Rattle.block_reader.proofs.Stopped.{on_ok}
 use Rattle.group_reader.specs.Reading.{array_of, ks_of}
 use Rattle.group_reader.proofs.LeafLemmas.{ordered_ok, leaf_block, no_leaf, leaf_found, leaf_refused}
 use Rattle.group_reader.proofs.leaf.read_leaf.Goals as goal
@@ -28,3 +29,9 @@ returns-clause-refused g c = λ tells chunk.
 
 pub returns-clause-ordered : goal.returns-clause-ordered
 returns-clause-ordered g c = ordered_ok _ _ _ _ c.push_entries.ensures.found
+
+pub returns-clause-listed : goal.returns-clause-listed
+returns-clause-listed g c = on_ok c.push_entries.result _ (c.requires.listed.0 ++ record { start = c.args.at; len = c.snod_size-len.result } ∷ [], c.in-Ok.ensures.found c.requires.listed.0 c.requires.listed.1)
+
+pub returns-clause-cause : goal.returns-clause-cause
+returns-clause-cause g c = λ failed. absurd (c.push_entries.ensures.no_fault failed)

@@ -4,10 +4,10 @@ use Rattle.block_space.specs.Blocks.{space_of}
 use Rattle.file_model.specs.Groups.{Ks, HasLinks}
 use Rattle.file_model.specs.RefusedGroups.{root_level, IsIndexRefused, IsTableRefused}
 use Rattle.block_reader.specs.Stops.{refusal_of}
-use Rattle.block_reader.proofs.Stopped.{if_some}
+use Rattle.block_reader.proofs.Stopped.{if_some, on_ok}
 use Rattle.group_reader.specs.Links.{links_of}
 use Rattle.group_reader.specs.Reading.{array_of, ks_of, Takes, Refuses, AreIndexed}
-use Rattle.group_reader.proofs.TableLemmas.{HeapRead, table_found, table_refused, segment_refused, if_ok_each, if_err_each}
+use Rattle.group_reader.proofs.TableLemmas.{HeapRead, table_found, table_refused, segment_refused, small_heap, if_ok_each, if_err_each}
 use Rattle.group_reader.proofs.links.read_links.Goals as goal
 
 pub returns-in-Err-clause-refused : goal.returns-in-Err-clause-refused
@@ -51,3 +51,15 @@ returns-clause-refused g c = λ tells.
 pub returns-clause-alike : goal.returns-clause-alike
 returns-clause-alike g c =
     g.V.Kept.transitive _ _ _ (g.V.Kept.transitive _ _ _ c.in-Ok.ensures.alike c.in-Ok-read_segment.ensures.alike) c.read_tree.ensures.alike
+
+pub returns-in-Err-read_segment-clause-alike : goal.returns-in-Err-read_segment-clause-alike
+returns-in-Err-read_segment-clause-alike g c = g.V.Kept.transitive _ _ _ c.in-Ok.ensures.alike c.in-Err-read_segment.ensures.alike
+
+pub read_segment-requires-clause-listed : goal.read_segment-requires-clause-listed
+read_segment-requires-clause-listed g c = (_, c.in-Ok.ensures.taken c.requires.listed.0 c.requires.listed.1)
+
+pub read_tree-requires-clause-listed : goal.read_tree-requires-clause-listed
+read_tree-requires-clause-listed g c = (_, c.in-Ok-read_segment.ensures.taken _ (c.in-Ok.ensures.taken c.requires.listed.0 c.requires.listed.1))
+
+pub returns-clause-small : goal.returns-clause-small
+returns-clause-small g c = λ tells. on_ok c.read_tree.result _ (small_heap (array_of g.V.Space.view c.args.blocks.now) c.args.heap_at c.in-Ok.head (c.in-Ok.ensures.found tells) c.in-Ok.ensures.small)

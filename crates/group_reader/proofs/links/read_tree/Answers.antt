@@ -27,3 +27,9 @@ returns-clause-refused g c = λ tells chunk.
 
 pub returns-in-Ok-read_children-clause-ordered : goal.returns-in-Ok-read_children-clause-ordered
 returns-in-Ok-read_children-clause-ordered g c = tree_ordered c.new-links.result.items c.read_children.new.links.items c.new-links.ensures.items c.in-Ok-read_children.ensures.ordered
+
+pub read_children-requires-clause-listed : goal.read_children-requires-clause-listed
+read_children-requires-clause-listed g c = (_, c.in-Ok.ensures.taken c.requires.listed.0 c.requires.listed.1)
+
+pub returns-clause-alike : goal.returns-clause-alike
+returns-clause-alike g c = g.V.Kept.transitive _ _ _ c.in-Ok.ensures.alike c.in-Err-read_children.ensures.alike
