@@ -1,7 +1,8 @@
-use Rattle.std.proofs.Common.{◌≡◌, suc, ◌+◌, ◌-◌, length, get_or, IfSome, sym, arith, rules}
+use Rattle.std.proofs.Common.{◌≡◌, suc, ◌+◌, ◌-◌, List, length, get_or, IfSome, sym, arith, rules}
 use Rattle.group_reader.specs.Reading.{array_of, ks_of, IsBelow, IsBelowRefused, FitKeys}
 use Rattle.outside.specs.Space.{bounds_of}
-use Rattle.block_space.specs.Blocks.{space_of}
+use Rattle.outside.specs.Blocks.{Block}
+use Rattle.block_space.specs.Blocks.{Keeps, space_of}
 use Rattle.file_model.specs.RefusedGroups.{IsKeyRefused}
 use Rattle.block_reader.specs.Stops.{refusal_of}
 use Rattle.group_reader.proofs.EntryLemmas.{slice_is, middle_is}
@@ -140,3 +141,11 @@ read_index-returns-clause-refused g t c = λ tells chunk.
     (sym (g.met.V.Space.alike _ _ c.in-Ok.ensures.alike))
     (record { spelled = c.in-Ok.ensures.found tells; level_is = c.if-node-level.false; keys_are = c.as_slice-keys.ensures; children_are = c.as_slice-children.ensures })
     c.in-Ok.ensures.taken (c.read_children.ensures.refused tells chunk)
+
+pub read_index-read_children-requires : goal.read_index-read_children-requires
+read_index-read_children-requires g t c κs within =
+    let listed : (met : List Block) × Keeps g.V.Space.view c.read_node.new.blocks met = (_, c.in-Ok.ensures.taken c.requires.listed.0 c.requires.listed.1) in
+    search rules
+
+pub read_index-returns-clause-alike : goal.read_index-returns-clause-alike
+read_index-returns-clause-alike g t c = g.V.Kept.transitive _ _ _ c.in-Ok.ensures.alike c.read_children.ensures.alike
