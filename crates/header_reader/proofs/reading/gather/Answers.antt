@@ -65,3 +65,6 @@ parts-preserved g c =
 
 pub returns-clause-found : goal.returns-clause-found
 returns-clause-found g c = λ told. (c.parts.invariant.parts, walked_all g.V.Space.tells _ c.args.at c.args.prefix c.parts.invariant.parts c.parts.walk told c.parts.invariant.walked c.parts-test.false, c.parts.invariant.kept)
+
+pub returns-in-Err-read_part-clause-alike : goal.returns-in-Err-read_part-clause-alike
+returns-in-Err-read_part-clause-alike g c = g.V.Kept.transitive _ _ _ c.parts.invariant.alike c.in-Err-read_part.ensures.alike

@@ -1,5 +1,6 @@
 -- The first bytes say which version a header has, and whether it has a prefix.
-use Rattle.std.proofs.Common.{◌≡◌, ◌∙◌, ◌∷◌, []}
+use Rattle.std.proofs.Common.{◌≡◌, ◌∙◌, ◌∷◌, [], sym, subst}
+use Rattle.block_space.specs.Blocks.{space_of}
 use Rattle.header_reader.proofs.Following.{if_some}
 use Rattle.header_reader.proofs.Answered.{AreFirst, later_read, later_found, later_refused, prefix_read, prefix_refused, refused_back, first_on, found_same, refused_same, none_later, none_spelled}
 use Rattle.header_reader.proofs.reading.read_header.Goals as goal
@@ -57,3 +58,24 @@ returns-clause-refused g c =
     (none_later c.in-Ok.first.items c.as_slice.result.now c.is_later.result c.as_slice.ensures.value c.if-is_later.false c.is_later.ensures.1)
     (none_spelled c.in-Ok.first.items c.as_slice-2.result.now c.as_slice-2.ensures.value c.in-None.ensures.only) why))
     (c.no_prefix.ensures.refused met own keeps')
+
+pub read_known-requires-clause-listed : goal.read_known-requires-clause-listed
+read_known-requires-clause-listed g c = (c.requires.listed.0, c.read.ensures.kept c.requires.listed.0 c.requires.listed.1)
+
+pub no_prefix-requires : goal.no_prefix-requires
+no_prefix-requires g c = record { listed = (c.requires.listed.0, c.read.ensures.kept c.requires.listed.0 c.requires.listed.1) }
+
+pub returns-then-is_later-clause-alike : goal.returns-then-is_later-clause-alike
+returns-then-is_later-clause-alike g c = subst (λ s. g.V.Kept.Alike (space_of c.args.blocks.now) s) (sym c.adopt.ensures.space) c.read.ensures.alike
+
+pub returns-then-is_later-clause-listed : goal.returns-then-is_later-clause-listed
+returns-then-is_later-clause-listed g c = (_, c.in_default.ensures.found _ (c.read.ensures.kept c.requires.listed.0 c.requires.listed.1))
+
+pub returns-in-Err-adopt-clause-alike : goal.returns-in-Err-adopt-clause-alike
+returns-in-Err-adopt-clause-alike g c = subst (λ s. g.V.Kept.Alike (space_of c.args.blocks.now) s) (sym c.adopt.ensures.space) c.read.ensures.alike
+
+pub returns-in-Some-clause-alike : goal.returns-in-Some-clause-alike
+returns-in-Some-clause-alike g c = g.V.Kept.transitive _ _ _ c.read.ensures.alike c.read_known.ensures.alike
+
+pub returns-clause-alike : goal.returns-clause-alike
+returns-clause-alike g c = subst (λ s. g.V.Kept.Alike (space_of c.args.blocks.now) s) (sym c.no_prefix.ensures.space) c.read.ensures.alike

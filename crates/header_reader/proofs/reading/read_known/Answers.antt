@@ -1,7 +1,8 @@
 -- Each stop of the header's own block or of its messages refuses the header.
-use Rattle.std.proofs.Common.{◌≡◌, ap, sym, arith}
+use Rattle.std.proofs.Common.{◌≡◌, ap, sym, subst, arith}
+use Rattle.block_space.specs.Blocks.{space_of}
 use Rattle.header_reader.proofs.Following.{if_some}
-use Rattle.header_reader.proofs.Answered.{large_first, header_block, in_messages}
+use Rattle.header_reader.proofs.Answered.{large_first, header_block, in_messages, known_found}
 use Rattle.header_reader.proofs.reading.read_known.Goals as goal
 
 pub returns-then-len-gt-MOST_BYTES-clause-refused : goal.returns-then-len-gt-MOST_BYTES-clause-refused
@@ -17,3 +18,20 @@ returns-in-Err-gather-clause-refused g c =
     λ told prefix met own keeps. let same : g.V.Space.view c.args.blocks.now.space ≡ g.V.Space.view c.adopt.new.blocks.space = ap g.V.Space.view (sym c.adopt.ensures.space) in
     if_some _ _ _ (λ r h. in_messages (g.V.Space.view c.args.blocks.now.space) (g.V.Space.view c.adopt.new.blocks.space) own met c.args.at c.args.prefix r same prefix h)
     (c.in-Err-gather.ensures.refused told met own (rw c.from-len.ensures at (c.in_default.ensures.found met keeps)))
+
+pub gather-requires-clause-listed : goal.gather-requires-clause-listed
+gather-requires-clause-listed g c = (_, c.in_default.ensures.found c.requires.listed.0 c.requires.listed.1)
+
+pub returns-in_ok-kind-in-Ok-clause-found : goal.returns-in_ok-kind-in-Ok-clause-found
+returns-in_ok-kind-in-Ok-clause-found g c = λ told prefix.
+    let same : g.V.Space.view c.args.blocks.now.space ≡ g.V.Space.view c.adopt.new.blocks.space = ap g.V.Space.view (sym c.adopt.ensures.space) in
+    known_found g.V.Space.view c.args.blocks.now c.adopt.new.blocks c.gather.new.blocks c.args.at c.args.prefix _ _ same prefix (λ met keeps. rw c.from-len.ensures at (c.in_default.ensures.found met keeps)) (c.in-Ok.ensures.found told) c.in_ok-kind-in-Ok.ensures.made
+
+pub returns-in_ok-kind-in-Ok-clause-alike : goal.returns-in_ok-kind-in-Ok-clause-alike
+returns-in_ok-kind-in-Ok-clause-alike g c = subst (λ s. g.V.Kept.Alike s (space_of c.gather.new.blocks)) c.adopt.ensures.space c.in-Ok.ensures.alike
+
+pub returns-in_err-kind-in-Ok-clause-alike : goal.returns-in_err-kind-in-Ok-clause-alike
+returns-in_err-kind-in-Ok-clause-alike g c = subst (λ s. g.V.Kept.Alike s (space_of c.gather.new.blocks)) c.adopt.ensures.space c.in-Ok.ensures.alike
+
+pub returns-in-Err-gather-clause-alike : goal.returns-in-Err-gather-clause-alike
+returns-in-Err-gather-clause-alike g c = subst (λ s. g.V.Kept.Alike s (space_of c.gather.new.blocks)) c.adopt.ensures.space c.in-Err-gather.ensures.alike
