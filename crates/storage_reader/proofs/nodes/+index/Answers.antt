@@ -1,11 +1,12 @@
-use Rattle.std.proofs.Common.{◌≡◌, ◌+◌, ◌-◌, ◌<◌, None, length, rules, refl, arith, get_or, ap}
+use Rattle.std.proofs.Common.{◌≡◌, ◌+◌, ◌-◌, ◌<◌, List, None, sym, subst, length, rules, refl, arith, get_or, ap}
 use Rattle.std.proofs.lemmas.Result.{IfOk-weaker}
+use Rattle.outside.specs.Blocks.{Block}
 use Rattle.outside.specs.Space.{bounds_of}
 use Rattle.block_space.specs.Blocks.{Keeps, space_of}
 use Rattle.block_reader.proofs.Stopped.{if_err}
 use Rattle.storage_reader.proofs.Children.{IsNext, next_child}
 use Rattle.storage_reader.proofs.InnerRead.{no_node_read, node_more, node_stopped, place_stopped, nodes_done}
-use Rattle.storage_reader.proofs.NodeLaws.{no_node, children_stopped, node_held, one_above, at_level, stopped_at_level, leaf_found, other_level}
+use Rattle.storage_reader.proofs.NodeLaws.{no_node, children_stopped, node_held, one_above, at_level, stopped_at_level, leaf_found, leaf_stopped, other_level}
 use Rattle.storage_reader.proofs.StopLaws.{handed}
 use Rattle.storage_reader.proofs.nodes.+index.Goals as goal
 
@@ -135,3 +136,37 @@ adopt_nodes-returns-clause-found g t c = λ tells met keeps.
     let end : c.loop-i.i ≡ length c.args.node.now.children = omega (arith, ap length same) in
     let f = c.args.form.now in
     nodes_done _ _ f.k f.rank f.sizes c.args.level c.args.at c.args.node.now.keys c.args.node.now.children c.loop-i.i c.loop-i.before _ met end (c.loop-i.invariant.read tells met None keeps)
+
+pub adopt_node-adopt_children-requires : goal.adopt_node-adopt_children-requires
+adopt_node-adopt_children-requires g t c κs within =
+    let listed : (met : List Block) × Keeps g.V.Space.view c.take_node.new.blocks met = (_, c.in_ok-node.ensures.kept c.requires.listed.0 c.requires.listed.1) in
+    search rules
+
+pub adopt_node-returns-in_err-node-clause-refused : goal.adopt_node-returns-in_err-node-clause-refused
+adopt_node-returns-in_err-node-clause-refused g t c = λ tells.
+    handed c.from_residual.result c.in_err-node.field-0.0 _ c.from_residual.ensures.1 (λ met own keeps. c.in_err-node.ensures.refused tells met own c.args.level keeps)
+
+pub adopt_node-returns-clause-alike : goal.adopt_node-returns-clause-alike
+adopt_node-returns-clause-alike g t c = g.V.Kept.transitive _ _ _ c.take_node.ensures.alike c.adopt_children.ensures.alike
+
+pub adopt_nodes-returns-in_err-here-clause-alike : goal.adopt_nodes-returns-in_err-here-clause-alike
+adopt_nodes-returns-in_err-here-clause-alike g t c = g.V.Kept.transitive _ _ _ c.loop-i.invariant.alike c.adopt_node.ensures.alike
+
+pub adopt_nodes-returns-then-not-is_in_place-clause-alike : goal.adopt_nodes-returns-then-not-is_in_place-clause-alike
+adopt_nodes-returns-then-not-is_in_place-clause-alike g t c = g.V.Kept.transitive _ _ _ c.loop-i.invariant.alike c.adopt_node.ensures.alike
+
+pub adopt_children-returns-in_err-adopt_chunks-clause-refused : goal.adopt_children-returns-in_err-adopt_chunks-clause-refused
+adopt_children-returns-in_err-adopt_chunks-clause-refused g t c = λ tells.
+    let f = c.args.form.now in
+    let n = c.args.node.now in
+    let stop = c.in_err-adopt_chunks.field-0.0 in
+    handed c.from_residual.result stop _ c.from_residual.ensures.1
+    (λ met own keeps. leaf_stopped _ _ f.k f.rank f.sizes n.level c.args.at n.keys n.children met stop (omega arith) (c.in_err-adopt_chunks.ensures.refused met own keeps))
+
+pub adopt_children-returns-clause-alike : goal.adopt_children-returns-clause-alike
+adopt_children-returns-clause-alike g t c = subst (λ s. g.V.Kept.Alike (space_of c.args.blocks.now) s) (sym c.adopt_chunks.ensures.space) (g.V.Kept.reflexive _)
+
+pub adopt_children-returns-clause-listed : goal.adopt_children-returns-clause-listed
+adopt_children-returns-clause-listed g t c =
+    let taken = c.in_ok-adopt_chunks.ensures.found c.requires.listed.0 c.requires.listed.1 in
+    (_, taken.4)

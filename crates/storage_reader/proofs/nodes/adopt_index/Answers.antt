@@ -25,3 +25,16 @@ returns-clause-found g c = λ tells met keeps.
     indexed array f.k f.rank f.sizes n.level c.args.at c.in_ok-adopt_children.field-0 kept met
     (node_held array f.k f.rank f.sizes n.level c.args.at n c.in_ok-adopt_children.field-0 kept met (c.in_ok-node.ensures.found tells) refl
     (rw e (c.in_ok-adopt_children.ensures.found tells _ (c.in_ok-node.ensures.kept met keeps))))
+
+pub adopt_children-requires-clause-listed : goal.adopt_children-requires-clause-listed
+adopt_children-requires-clause-listed g c = (_, c.in_ok-node.ensures.kept c.requires.listed.0 c.requires.listed.1)
+
+pub returns-in_err-node-clause-refused : goal.returns-in_err-node-clause-refused
+returns-in_err-node-clause-refused g c = λ tells.
+    handed c.from_residual.result c.in_err-node.field-0.0 _ c.from_residual.ensures.1 (λ met own keeps. c.in_err-node.ensures.refused tells met own _ keeps)
+
+pub returns-in_err-adopt_children-clause-alike : goal.returns-in_err-adopt_children-clause-alike
+returns-in_err-adopt_children-clause-alike g c = g.V.Kept.transitive _ _ _ c.take_node.ensures.alike c.adopt_children.ensures.alike
+
+pub returns-clause-alike : goal.returns-clause-alike
+returns-clause-alike g c = g.V.Kept.transitive _ _ _ c.take_node.ensures.alike c.adopt_children.ensures.alike

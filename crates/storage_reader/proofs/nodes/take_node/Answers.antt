@@ -19,3 +19,12 @@ returns-in-Err-NotThis-clause-refused g c = λ tells met own level keeps. rw c.m
     let array = (g.V.Space.view (space_of c.args.blocks.now)).array in
     let read = c.as_slice.ensures.value ∙ c.in_ok-bytes.ensures.bytes tells ∙ ap (bytes_of array c.args.at) c.chunk_node_size.ensures in
     c.read_chunk_node.ensures.only (cc) n (subst (SpellsChunkNode c.args.form.now.k c.args.form.now.rank n) (sym read) spelled)))
+
+pub returns-in-Ok-clause-found : goal.returns-in-Ok-clause-found
+returns-in-Ok-clause-found g c = λ tells.
+    let array = (g.V.Space.view (space_of c.args.blocks.now)).array in
+    let read = c.as_slice.ensures.value ∙ c.in_ok-bytes.ensures.bytes tells ∙ ap (bytes_of array c.args.at) c.chunk_node_size.ensures in
+    subst (SpellsChunkNode c.args.form.now.k c.args.form.now.rank c.in-Ok.node) read c.in-Ok.ensures.found
+
+pub returns-in-Ok-clause-kept : goal.returns-in-Ok-clause-kept
+returns-in-Ok-clause-kept g c = λ met keeps. rw c.chunk_node_size.ensures at (c.in_ok-bytes.ensures.found met keeps)

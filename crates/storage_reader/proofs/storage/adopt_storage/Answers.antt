@@ -1,4 +1,4 @@
-use Rattle.std.proofs.Common.{◌≡◌, length}
+use Rattle.std.proofs.Common.{◌≡◌, length, sym, subst}
 use Rattle.std.proofs.lemmas.Result.{on_ok_weaker}
 use Rattle.outside.specs.Space.{bounds_of}
 use Rattle.dtype.specs.Types.{size_of}
@@ -53,3 +53,12 @@ returns-in_ok-form-in-Chunked-clause-refused g c = λ tells.
     index_stopped (g.V.Space.view (space_of c.args.blocks.now)).array (bounds_of (g.V.Space.view (space_of c.args.blocks.now)) own) c.args.k i c.in-Chunked.tree_at f.rank c.in-Chunked.sizes c.args.shape.now c.args.layout.now
     c.args.filtered c.is_read.result met stop shape layout c.in-Chunked.is filtered c.is_read.ensures c.if-not-is_read.false rank (rw (← k, ← sizes) (refused met own keeps)))
     (c.adopt_index.ensures.refused tells)
+
+pub returns-in-Contiguous-clause-listed : goal.returns-in-Contiguous-clause-listed
+returns-in-Contiguous-clause-listed g c = on_ok_weaker c.adopt_elements.result (λ found. (_, found c.requires.listed.0 c.requires.listed.1)) c.adopt_elements.ensures.found
+
+pub returns-in-Contiguous-clause-alike : goal.returns-in-Contiguous-clause-alike
+returns-in-Contiguous-clause-alike g c = subst (λ s. g.V.Kept.Alike (space_of c.args.blocks.now) s) (sym c.adopt_elements.ensures.space) (g.V.Kept.reflexive _)
+
+pub returns-in-Contiguous-clause-cause : goal.returns-in-Contiguous-clause-cause
+returns-in-Contiguous-clause-cause g c = λ failed. absurd (c.adopt_elements.ensures.no_fault failed)
