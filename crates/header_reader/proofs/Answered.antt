@@ -8,19 +8,19 @@ use Rattle.outside.specs.Space.{SpaceView, AreRegions, bounds_of}
 use Rattle.block_space.specs.Blocks.{Keeps}
 use Rattle.block_space.specs.declared.blocks.Blocks.{Blocks}
 use Rattle.block_reader.specs.declared.stop.TreeStop.{TreeStop}
+use Rattle.block_reader.specs.declared.stop.TreeStop.TheVariants as stops
 use Rattle.block_reader.specs.Stops.{refusal_of}
 use Rattle.h5_base.specs.declared.kinds.BlockKind.TheVariants as kind
 use Rattle.h5_base.specs.declared.kinds.What.TheVariants as what
 use Rattle.header_codec.specs.Headers.{SpellsPrefix}
 use Rattle.header_codec.specs.declared.types.Prefix.{Prefix}
-use Rattle.file_model.specs.Headers.{Met, AreWhole, Part, messages_of, header_blocks, later_header}
-use Rattle.file_model.specs.Limits.{most_header}
+use Rattle.file_model.specs.Headers.{AreWhole, IsHeader, Part, messages_of, header_blocks, later_header}
+use Rattle.file_model.specs.Limits.{header_bytes, most_header}
 use Rattle.file_model.specs.Refusals.{Refusal, Malformed, Unsupported, IsBlockRefused, IsMessageRefused, IsHeaderRefused, LaterHeader, PrefixBlock, NoPrefix, LargeFirst, HeaderBlock, InMessages}
 use Rattle.object_header.specs.Firsts.{Firsts}
-use Rattle.object_header.specs.Gathered.{Gathers, IsKind}
-use Rattle.object_header.specs.declared.types.ObjectKind.{ObjectKind}
+use Rattle.object_header.specs.Gathered.{Gathers}
 use Rattle.header_reader.specs.declared.reading.Header.{Header}
-use Rattle.header_reader.specs.declared.reading.Header.TheVariants.{Later, Known}
+use Rattle.header_reader.specs.declared.reading.Header.TheVariants.{Later}
 use Rattle.header_reader.specs.Found.{IsFound}
 use Rattle.header_reader.specs.Walks.{HasPrefix, IsGathered, IsBlockStop}
 use Rattle.header_reader.proofs.High.{refused_less}
@@ -40,17 +40,20 @@ pub in_messages : (v w : SpaceView) (own : Option (List ℕ)) (met : List Block)
 in_messages v w own met at prefix r same h refused =
     InMessages prefix h.spelled (subst (λ (y : SpaceView). IsMessageRefused y.array (bounds_of y own) met at prefix r) (sym same) refused)
 
-pub known_found : {V : Type 0} (view : V → SpaceView) (old mid new : Blocks V) (at : ℕ) (prefix : Prefix) (messages : Firsts) (kind : ObjectKind) → view old.space ≡ view mid.space → HasPrefix (view old.space).array at prefix
+pub known_found : {V : Type 0} (view : V → SpaceView) (old mid new : Blocks V) (at : ℕ) (prefix : Prefix) (messages : Firsts) (x : Header) → view old.space ≡ view mid.space → HasPrefix (view old.space).array at prefix
     → ((met : List Block) → Keeps view old met → Keeps view mid (met ++ record { start = at; len = 16 + prefix.size } ∷ []))
     → (parts : List Part) × IsGathered (view mid.space).array at prefix messages parts × ((met : List Block) → Keeps view mid (met ++ record { start = at; len = 16 + prefix.size } ∷ []) → Keeps view new (met ++ header_blocks at prefix parts))
-    → ((ms : List Met) → Gathers messages ms → AreWhole ms → IsKind ms kind)
-    → (met : List Block) → Keeps view old met → (bs : List Block) × IsFound (view old.space).array at (Known kind) bs × Keeps view new (met ++ bs)
-known_found view old mid new at prefix messages kind same h kept f made = λ met keeps.
-    let g = subst (λ (v : SpaceView). IsGathered v.array at prefix messages f.0) (sym same) f.1 in (
-      header_blocks at prefix f.0,
-      (prefix, f.0, record { spelled = h.spelled; unread = g.unread; met = g.met }, made (messages_of f.0) g.gathered g.whole, refl, g.short),
-      f.2 met (kept met keeps),
-    )
+    → ((b : Array) (at : ℕ) (prefix : Prefix) (parts : List Part) → IsHeader b at prefix parts → Gathers messages (messages_of parts) → AreWhole (messages_of parts) → header_bytes at prefix parts ≤ most_header
+    → IsFound b at x (header_blocks at prefix parts))
+    → (met : List Block) → Keeps view old met → (bs : List Block) × IsFound (view old.space).array at x bs × Keeps view new (met ++ bs)
+known_found view old mid new at prefix messages x same h kept f made = λ met keeps.
+    let b = (view old.space).array in
+    let g = subst (λ (v : SpaceView). IsGathered v.array at prefix messages f.0) (sym same) f.1 in
+    (header_blocks at prefix f.0, made b at prefix f.0 (record { spelled = h.spelled; unread = g.unread; met = g.met }) g.gathered g.whole g.short, f.2 met (kept met keeps))
+
+-- want of memory refuses no file
+pub memory_only : (stop : TreeStop) (IsRefused : Refusal → Type 0) → stop ≡ stops.NoMemory → IfSome (refusal_of stop) IsRefused
+memory_only stop IsRefused is = subst (λ (s : TreeStop). IfSome (refusal_of s) IsRefused) (sym is) tt
 
 -- ---- over a space that is alike
 
@@ -62,7 +65,6 @@ part_refused view old mid (Ok x) total start len wanted bytes same kept is h = h
 part_refused view old mid (Err stop) total start len wanted bytes same kept is h =
     λ met own keeps. subst (λ (l : List ℕ). IfSome (refusal_of stop) (IsBlockStop (bounds_of (view old.space) own) met total start l wanted)) is
     (subst (λ (v : SpaceView). IfSome (refusal_of stop) (IsBlockStop (bounds_of v own) met total start bytes wanted)) (sym same) (h met own (kept met keeps)))
-
 
 pub found_same : {V : Type 0} (view : V → SpaceView) (old mid new : Blocks V) (at : ℕ) (r : Result Header TreeStop) → view old.space ≡ view mid.space → ((met : List Block) → Keeps view old met → Keeps view mid met)
     → IfOk r (λ x. (met : List Block) → Keeps view mid met → (bs : List Block) × IsFound (view mid.space).array at x bs × Keeps view new (met ++ bs))

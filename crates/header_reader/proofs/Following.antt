@@ -1,11 +1,12 @@
 -- One message more: what it names, and why it is refused.
-use Rattle.std.proofs.Common.{◌≡◌, ◌⊎◌, ℕ, zero, suc, ◌+◌, ◌-◌, ◌<◌, ◌≤◌, ◌==◌, false, List, [], ◌∷◌, ◌++◌, length, take, drop, Option, Some, None, IfSome, Result, Ok, Err, IfErr, refl, sym, ◌∙◌, ap, subst, arith}
+use Rattle.std.proofs.Common.{◌≡◌, ◌⊎◌, ℕ, zero, suc, ◌+◌, ◌-◌, ◌<◌, ◌≤◌, ◌==◌, false, List, [], ◌∷◌, ◌++◌, length, map, take, drop, Option, Some, None, IfSome, Result, Ok, Err, IfErr, refl, sym, ◌∙◌, ap, subst, arith}
 use Rattle.std.specs.List.{flat_map}
 use Rattle.std.proofs.lemmas.Bool.Decides.{nat_tests}
-use Rattle.std.proofs.lemmas.List.{append_assoc, append-nil, flat_map_more, length-append, length-drop, length-take-le}
+use Rattle.std.proofs.lemmas.List.{append_assoc, append-nil, flat_map_more, map-append, length-append, length-drop, length-take-le}
 use Rattle.std.proofs.lemmas.List.Sums.{sum_by-append}
 use Rattle.std.proofs.lemmas.Grind.{flat_map-append}
 use Rattle.h5_base.specs.Fields.{u64_at}
+use Rattle.h5_base.specs.declared.extent.Extent.{Extent}
 use Rattle.outside.specs.Blocks.{Block, Bounds, placed}
 use Rattle.outside.specs.Space.{SpaceView, bounds_of}
 use Rattle.block_space.specs.Blocks.{Keeps}
@@ -19,7 +20,7 @@ use Rattle.file_model.specs.Refusals.{Refusal, met_bytes}
 use Rattle.file_model.specs.Limits.{most_header}
 use Rattle.object_header.specs.Gathered.{Gathers}
 use Rattle.header_reader.specs.declared.walk.Walk.{Walk}
-use Rattle.header_reader.specs.Walks.{IsNameRefused, TooLarge, BadBlock, IsMessageAt, IsStepRefused, LargeHeader, BadContinuation, Meets, IsBlockStop, waiting_of}
+use Rattle.header_reader.specs.Walks.{IsNameRefused, TooLarge, BadBlock, IsMessageAt, IsStepRefused, LargeHeader, BadContinuation, Meets, IsBlockStop, block_of, waiting_of}
 
 pub if_some : {A : Type 0} (o : Option A) (P Q : A → Type 0) → ((a : A) → P a → Q a) → IfSome o P → IfSome o Q
 if_some None P Q f h = tt
@@ -29,6 +30,17 @@ if_some (Some a) P Q f h = f a h
 pub placed_bytes : (start len : ℕ) → met_bytes (placed start len) ≡ len
 placed_bytes start zero = refl
 placed_bytes start (suc n) = let test : (suc n == 0) ≡ false = grind (arith, nat_tests) in rw test (omega arith)
+
+-- a block that is placed waits behind the others
+pub waits_more : (old mid new : List Extent) (x : Extent) (start len : ℕ) → 0 < len → mid ≡ old ++ x ∷ [] → new ≡ mid → block_of x ≡ record { start = start; len = len } → map block_of new ≡ map block_of old ++ placed start len
+waits_more old mid new x start zero some pushed is same = absurd (omega (arith, some))
+waits_more old mid new x start (suc n) some pushed is same =
+    let test : (suc n == 0) ≡ false = grind (arith, nat_tests) in
+    rw test (ap (map block_of) (is ∙ pushed) ∙ map-append block_of old (x ∷ []) ∙ ap (λ (y : Block). map block_of old ++ y ∷ []) same)
+
+pub waits_none : (old new : List Extent) (start len : ℕ) → len ≤ 0 → new ≡ old → map block_of new ≡ map block_of old ++ placed start len
+waits_none old new start zero none is = ap (map block_of) is ∙ sym (append-nil (map block_of old))
+waits_none old new start (suc n) none is = absurd (omega (arith, none))
 
 pub named_bytes : (m : Met) → m.kind ≡ 0x10 → met_bytes (continued m) ≡ u64_at m.body 8
 named_bytes m is = let e : continued m ≡ placed (u64_at m.body 0) (u64_at m.body 8) = rw is refl in ap met_bytes e ∙ placed_bytes (u64_at m.body 0) (u64_at m.body 8)

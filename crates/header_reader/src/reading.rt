@@ -1,11 +1,15 @@
 ghost use Rattle.std.specs.Prelude.{◌≡◌, ◌+◌, ◌^◌, ◌<◌, ◌≤◌, ◌++◌, ◌∷◌, [], ℕ, List, Option, IsTrue, IfOk, IfErr, IfSome, OnOk, IsErrOf};
+ghost use Rattle.header_codec.specs.declared.types.Prefix.{Prefix};
+ghost use Rattle.outside.specs.Array.{Array};
 ghost use Rattle.outside.specs.Blocks.{Block};
 ghost use Rattle.outside.specs.Causes.{Rose};
 ghost use Rattle.outside.specs.Space.{bounds_of};
 ghost use Rattle.block_space.specs.Blocks.{Keeps, space_of};
 ghost use Rattle.block_reader.specs.Stops.{refusal_of};
-ghost use Rattle.file_model.specs.Headers.{Part, header_blocks};
+ghost use Rattle.file_model.specs.Headers.{AreWhole, IsHeader, Part, header_blocks, messages_of};
+ghost use Rattle.file_model.specs.Limits.{header_bytes, most_header};
 ghost use Rattle.file_model.specs.Refusals.{IsMessageRefused, IsHeaderRefused};
+ghost use Rattle.object_header.specs.Gathered.{Gathers};
 ghost use Rattle.header_reader.specs.Found.{IsFound, IsSoundHeader};
 ghost use Rattle.header_reader.specs.Walks.{HasPrefix, IsGathered};
 
@@ -68,6 +72,19 @@ fn gather<V: Space>(
     Ok(messages)
 }
 
+// The object that the messages of a header make.
+fn known(alloc: Global, messages: Messages) -> Result<Header, TreeStop>
+    ensures made { IfOk result (λ x. (b : Array) (at : ℕ) (prefix : Prefix) (parts : List Part) → IsHeader b at prefix parts → Gathers messages (messages_of parts) → AreWhole (messages_of parts)
+        → header_bytes at prefix parts ≤ most_header → IsFound b at x (header_blocks at prefix parts)) }
+    ensures sound { IfOk result IsSoundHeader }
+    ensures memory { IfErr result (λ stop. stop ≡ TreeStop.NoMemory) }
+{
+    match messages.kind(alloc) {
+        Ok(kind) => Ok(Header::Known { kind }),
+        Err(_) => Err(TreeStop::NoMemory),
+    }
+}
+
 // Reads the header whose prefix was read.
 fn read_known<V: Space>(
     alloc: Global,
@@ -97,10 +114,7 @@ fn read_known<V: Space>(
         return Err(stop);
     }
     match gather(alloc, blocks, at, prefix) {
-        Ok(messages) => {
-            let kind = messages.kind(alloc)?;
-            Ok(Header::Known { kind })
-        }
+        Ok(messages) => known(alloc, messages),
         Err(stop) => Err(stop),
     }
 }

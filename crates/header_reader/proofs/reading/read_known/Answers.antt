@@ -1,8 +1,10 @@
 -- Each stop of the header's own block or of its messages refuses the header.
 use Rattle.std.proofs.Common.{◌≡◌, ap, sym, subst, arith}
+use Rattle.std.proofs.lemmas.Result.{IfOk-weaker}
 use Rattle.block_space.specs.Blocks.{space_of}
+use Rattle.block_reader.proofs.Stopped.{if_err, on_ok}
 use Rattle.header_reader.proofs.Following.{if_some}
-use Rattle.header_reader.proofs.Answered.{large_first, header_block, in_messages, known_found}
+use Rattle.header_reader.proofs.Answered.{large_first, header_block, in_messages, known_found, memory_only}
 use Rattle.header_reader.proofs.reading.read_known.Goals as goal
 
 pub returns-then-len-gt-MOST_BYTES-clause-refused : goal.returns-then-len-gt-MOST_BYTES-clause-refused
@@ -22,16 +24,21 @@ returns-in-Err-gather-clause-refused g c =
 pub gather-requires-clause-listed : goal.gather-requires-clause-listed
 gather-requires-clause-listed g c = (_, c.in_default.ensures.found c.requires.listed.0 c.requires.listed.1)
 
-pub returns-in_ok-kind-in-Ok-clause-found : goal.returns-in_ok-kind-in-Ok-clause-found
-returns-in_ok-kind-in-Ok-clause-found g c = λ told prefix.
+pub returns-in-Ok-clause-found : goal.returns-in-Ok-clause-found
+returns-in-Ok-clause-found g c = λ told prefix.
     let same : g.V.Space.view c.args.blocks.now.space ≡ g.V.Space.view c.adopt.new.blocks.space = ap g.V.Space.view (sym c.adopt.ensures.space) in
-    known_found g.V.Space.view c.args.blocks.now c.adopt.new.blocks c.gather.new.blocks c.args.at c.args.prefix _ _ same prefix (λ met keeps. rw c.from-len.ensures at (c.in_default.ensures.found met keeps)) (c.in-Ok.ensures.found told) c.in_ok-kind-in-Ok.ensures.made
+    IfOk-weaker c.known.result _ _
+    (λ x made. known_found g.V.Space.view c.args.blocks.now c.adopt.new.blocks c.gather.new.blocks c.args.at c.args.prefix _ x same prefix (λ met keeps. rw c.from-len.ensures at (c.in_default.ensures.found met keeps)) (c.in-Ok.ensures.found told) made)
+    c.known.ensures.made
 
-pub returns-in_ok-kind-in-Ok-clause-alike : goal.returns-in_ok-kind-in-Ok-clause-alike
-returns-in_ok-kind-in-Ok-clause-alike g c = subst (λ s. g.V.Kept.Alike s (space_of c.gather.new.blocks)) c.adopt.ensures.space c.in-Ok.ensures.alike
+pub returns-in-Ok-clause-refused : goal.returns-in-Ok-clause-refused
+returns-in-Ok-clause-refused g c = λ told prefix. if_err c.known.result _ _ (λ stop is met own keeps. memory_only stop _ is) c.known.ensures.memory
 
-pub returns-in_err-kind-in-Ok-clause-alike : goal.returns-in_err-kind-in-Ok-clause-alike
-returns-in_err-kind-in-Ok-clause-alike g c = subst (λ s. g.V.Kept.Alike s (space_of c.gather.new.blocks)) c.adopt.ensures.space c.in-Ok.ensures.alike
+pub returns-in-Ok-clause-alike : goal.returns-in-Ok-clause-alike
+returns-in-Ok-clause-alike g c = subst (λ s. g.V.Kept.Alike s (space_of c.gather.new.blocks)) c.adopt.ensures.space c.in-Ok.ensures.alike
+
+pub returns-in-Ok-clause-listed : goal.returns-in-Ok-clause-listed
+returns-in-Ok-clause-listed g c = on_ok c.known.result _ c.in-Ok.ensures.listed
 
 pub returns-in-Err-gather-clause-alike : goal.returns-in-Err-gather-clause-alike
 returns-in-Err-gather-clause-alike g c = subst (λ s. g.V.Kept.Alike s (space_of c.gather.new.blocks)) c.adopt.ensures.space c.in-Err-gather.ensures.alike
