@@ -1,6 +1,6 @@
 -- What can't be spelled of a new dataset where a part can't.
 use Rattle.std.proofs.Common.{◌≡◌, ℕ, Bool, true, false, List, [], Option, Some, None, refl, sym, ap, subst, ◌∙◌}
-use Rattle.std.specs.Prelude.{codes}
+use Rattle.std.specs.Prelude.{codes, ◌&&◌}
 use Rattle.dtype.specs.Values.{CanHold}
 use Rattle.dtype.specs.declared.types.ElemType.{ElemType}
 use Rattle.dtype.specs.declared.types.Value.{Value}
@@ -57,36 +57,47 @@ one_sizing text d e c k m n more others h g =
     let o = one_option true (codes "max") h.after_chunk m n more others h.max_is (subst (λ (t : List ℕ). Maxima t n others) b.1 g.max_is) in
     (a.0, b.0, o.0, o.1)
 
+abbrev NoSizing : List ℕ → Type 0
+NoSizing text = (d : List ℕ) (c m : Option (List ℕ)) (more : List ℕ) → IsSizing text d c m more → ⊥
+
+pub no_dims : (text : List ℕ) → ((d more : List ℕ) → Dimensions text d more → ⊥) → NoSizing text
+no_dims text none d c m more h = none d h.after_dims h.dims_are
+
+pub no_chunk : (text dims t : List ℕ) → Dimensions text dims t → ((c : Option (List ℕ)) (more : List ℕ) → Chunks t c more → ⊥) → NoSizing text
+no_chunk text dims t is none d c m more h =
+    let a = one_dimensions text dims d t h.after_dims is h.dims_are in
+    none c h.after_chunk (subst (λ (u : List ℕ). Chunks u c h.after_chunk) a.1 h.chunk_is)
+
+pub no_max : (text dims t u : List ℕ) (chunk : Option (List ℕ)) → Dimensions text dims t → Chunks t chunk u → ((m : Option (List ℕ)) (more : List ℕ) → Maxima u m more → ⊥) → NoSizing text
+no_max text dims t u chunk is has none d c m more h =
+    let a = one_dimensions text dims d t h.after_dims is h.dims_are in
+    let b = one_option false (codes "chunk") t chunk c u h.after_chunk has (subst (λ (v : List ℕ). Chunks v c h.after_chunk) a.1 h.chunk_is) in
+    none m more (subst (λ (v : List ℕ). Maxima v m more) b.1 h.max_is)
+
 abbrev NoShape : List ℕ → Type 0
 NoShape text = (d : List ℕ) (c m : Option (List ℕ)) (more : List ℕ) → IsShape text d c m more → ⊥
 
-pub no_dims : (text : List ℕ) → ((d more : List ℕ) → Dimensions text d more → ⊥) → NoShape text
-no_dims text none d c m more h = none d h.sizing.after_dims h.sizing.dims_are
+pub no_sizing : (text : List ℕ) → NoSizing text → NoShape text
+no_sizing text none d c m more h = none d c m more h.sizing
 
-pub no_chunk : (text dims t : List ℕ) → Dimensions text dims t → ((c : Option (List ℕ)) (more : List ℕ) → Chunks t c more → ⊥) → NoShape text
-no_chunk text dims t is none d c m more h =
-    let a = one_dimensions text dims d t h.sizing.after_dims is h.sizing.dims_are in
-    none c h.sizing.after_chunk (subst (λ (u : List ℕ). Chunks u c h.sizing.after_chunk) a.1 h.sizing.chunk_is)
+abbrev fit : List ℕ → (chunk max : Option (List ℕ)) → Bool
+fit dims chunk max = is_chunk dims chunk && is_maximum dims chunk max
 
-pub no_max : (text dims t u : List ℕ) (chunk : Option (List ℕ)) → Dimensions text dims t → Chunks t chunk u → ((m : Option (List ℕ)) (more : List ℕ) → Maxima u m more → ⊥) → NoShape text
-no_max text dims t u chunk is has none d c m more h =
-    let a = one_dimensions text dims d t h.sizing.after_dims is h.sizing.dims_are in
-    let b = one_option false (codes "chunk") t chunk c u h.sizing.after_chunk has (subst (λ (v : List ℕ). Chunks v c h.sizing.after_chunk) a.1 h.sizing.chunk_is) in
-    none m more (subst (λ (v : List ℕ). Maxima v m more) b.1 h.sizing.max_is)
-
-pub unfit_chunk : (text dims more : List ℕ) (chunk max : Option (List ℕ)) → IsSizing text dims chunk max more → is_chunk dims chunk ≡ false → NoShape text
-unfit_chunk text dims more chunk max is unfit d c m others h =
+pub unfit : (text dims more : List ℕ) (chunk max : Option (List ℕ)) → IsSizing text dims chunk max more → fit dims chunk max ≡ false → NoShape text
+unfit text dims more chunk max is bad d c m others h =
     let a = one_sizing text dims d chunk c max m more others is h.sizing in
-    let same : is_chunk d c ≡ is_chunk dims chunk = ap (λ x. is_chunk x c) (sym a.0) ∙ ap (is_chunk dims) (sym a.1) in
-    let good : is_chunk d c ≡ true = h.chunk_fits in
+    let same : fit d c m ≡ fit dims chunk max = ap (λ x. fit x c m) (sym a.0) ∙ ap (λ x. fit dims x m) (sym a.1) ∙ ap (fit dims chunk) (sym a.2) in
+    let good : fit d c m ≡ true = rw (h.chunk_fits, h.max_fits) refl in
     absurd cc
 
-pub unfit_max : (text dims more : List ℕ) (chunk max : Option (List ℕ)) → IsSizing text dims chunk max more → is_maximum dims chunk max ≡ false → NoShape text
-unfit_max text dims more chunk max is unfit d c m others h =
-    let a = one_sizing text dims d chunk c max m more others is h.sizing in
-    let same : is_maximum d c m ≡ is_maximum dims chunk max = ap (λ x. is_maximum x c m) (sym a.0) ∙ ap (λ x. is_maximum dims x m) (sym a.1) ∙ ap (is_maximum dims chunk) (sym a.2) in
-    let good : is_maximum d c m ≡ true = h.max_fits in
-    absurd cc
+both_true : (a b : Bool) → (a && b) ≡ true → (a ≡ true) × (b ≡ true)
+both_true true b e = (refl, e)
+both_true false b e = absurd cc
+
+pub fitting : (text dims more : List ℕ) (chunk max : Option (List ℕ)) → IsSizing text dims chunk max more → fit dims chunk max ≡ true → IsShape text dims chunk max more
+fitting text dims more chunk max is good =
+    let both = both_true (is_chunk dims chunk) (is_maximum dims chunk max) good in
+    record { sizing = is; chunk_fits = both.0; max_fits = both.1 }
 
 -- ---- the fill value
 

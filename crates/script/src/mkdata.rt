@@ -1,4 +1,4 @@
-ghost use Rattle.std.specs.Prelude.{◌≡◌, ◌==◌, not, List, ℕ, Option, IfOk, Err, codes, []};
+ghost use Rattle.std.specs.Prelude.{◌≡◌, ◌==◌, ◌&&◌, not, List, ℕ, Option, IfOk, Err, codes, []};
 ghost use Rattle.std.specs.List.{list_all};
 ghost use Rattle.dtype.specs.Types.{IsElemType};
 ghost use Rattle.dtype.specs.Values.{CanHold};
@@ -6,7 +6,7 @@ ghost use Rattle.dtype.specs.declared.types.ElemType.{ElemType};
 ghost use Rattle.dtype.specs.declared.types.Value.{Value};
 ghost use Rattle.object_model.specs.Boxes.{all_le};
 ghost use Rattle.object_model.specs.declared.command.Command.{Command};
-ghost use Rattle.script.specs.Line.{is_chunk, is_maximum, IsFill, IsOption, IsShape, IsValue, Reads};
+ghost use Rattle.script.specs.Line.{is_chunk, is_maximum, IsFill, IsOption, IsShape, IsSizing, IsValue, Reads};
 
 use crate::Command;
 use crate::arguments::{take_path, take_sizes, take_type};
@@ -92,21 +92,35 @@ struct Sizes {
     max: Option<Dims>,
 }
 
+/// Sizes, chunk sizes and maximum sizes, and the rest.
+fn take_sizing(alloc: Global, text: &[u8]) -> Result<(Sizes, &[u8]), LineStop>
+    ensures found { IfOk result (λ x. IsSizing text.now x.0.dims x.0.chunk x.0.max x.1.now) }
+    ensures bad { result ≡ Err LineStop.BadLine → (d : List ℕ) → (c m : Option (List ℕ)) → (more : List ℕ) → IsSizing text.now d c m more → ⊥ }
+{
+    let (dims, text) = take_sizes(alloc, false, text)?;
+    let (chunk, text) = take_option(alloc, false, b"chunk", text)?;
+    let (max, text) = take_option(alloc, true, b"max", text)?;
+    Ok((Sizes { dims, chunk, max }, text))
+}
+
+/// Whether the sizes fit one another.
+fn is_fitting(sizes: &Sizes) -> bool
+    ensures { result ≡ (is_chunk sizes.now.dims sizes.now.chunk && is_maximum sizes.now.dims sizes.now.chunk sizes.now.max) }
+{
+    let dims = sizes.dims.as_slice();
+    is_chunk(dims, &sizes.chunk) && is_maximum(dims, &sizes.chunk, &sizes.max)
+}
+
 /// Sizes, chunk sizes and maximum sizes that fit one another, and the rest.
 fn take_shape(alloc: Global, text: &[u8]) -> Result<(Sizes, &[u8]), LineStop>
     ensures found { IfOk result (λ x. IsShape text.now x.0.dims x.0.chunk x.0.max x.1.now) }
     ensures bad { result ≡ Err LineStop.BadLine → (d : List ℕ) → (c m : Option (List ℕ)) → (more : List ℕ) → IsShape text.now d c m more → ⊥ }
 {
-    let (dims, text) = take_sizes(alloc, false, text)?;
-    let (chunk, text) = take_option(alloc, false, b"chunk", text)?;
-    let (max, text) = take_option(alloc, true, b"max", text)?;
-    if !is_chunk(dims.as_slice(), &chunk) {
+    let (sizes, rest) = take_sizing(alloc, text)?;
+    if !is_fitting(&sizes) {
         return Err(LineStop::BadLine);
     }
-    if !is_maximum(dims.as_slice(), &chunk, &max) {
-        return Err(LineStop::BadLine);
-    }
-    Ok((Sizes { dims, chunk, max }, text))
+    Ok((sizes, rest))
 }
 
 /// A fill value that the type can hold, to the end of the text.

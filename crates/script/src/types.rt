@@ -3,7 +3,7 @@ ghost use Rattle.std.specs.Option.{option_map, SomeIff};
 ghost use Rattle.dtype.specs.Types.{IsTextSize};
 ghost use Rattle.dtype.specs.declared.types.ElemType.{ElemType};
 ghost use Rattle.script.specs.Numbers.{IsNumber};
-ghost use Rattle.script.specs.Types.{sign_of, order_of, wide_size, narrow_size, int_type, after_str, padding, IsType};
+ghost use Rattle.script.specs.Types.{sign_of, order_of, wide_size, narrow_size, int_of, int_type, after_str, padding, IsType};
 
 use crate::numbers::read_u64;
 use dtype::{ElemType, Pad};
@@ -45,23 +45,23 @@ fn wide_size(c: u8, d: u8) -> Option<u8>
     }
 }
 
+/// The integer type of these parts, where each is there.
+fn int_of(signed: Option<bool>, size: Option<u8>, big: Option<bool>) -> Option<ElemType>
+    ensures { result ≡ int_of signed size big }
+{
+    match (signed, size, big) {
+        (Some(signed), Some(size), Some(big)) => Some(ElemType::Int { size, signed, big }),
+        _ => None,
+    }
+}
+
 /// The integer type of a sign, bits and a byte order.
 fn read_int(word: &[u8]) -> Option<ElemType>
     ensures { result ≡ int_type word.now }
 {
     match word {
-        [s, a, b, c] => {
-            let signed = sign_of(*s)?;
-            let size = narrow_size(*a)?;
-            let big = order_of(*b, *c)?;
-            Some(ElemType::Int { size, signed, big })
-        }
-        [s, a, b, c, d] => {
-            let signed = sign_of(*s)?;
-            let size = wide_size(*a, *b)?;
-            let big = order_of(*c, *d)?;
-            Some(ElemType::Int { size, signed, big })
-        }
+        [s, a, b, c] => int_of(sign_of(*s), narrow_size(*a), order_of(*b, *c)),
+        [s, a, b, c, d] => int_of(sign_of(*s), wide_size(*a, *b), order_of(*c, *d)),
         _ => None,
     }
 }
