@@ -4,7 +4,7 @@ use Rattle.std.specs.Prelude.{unwrap_or}
 use Rattle.std.specs.List.{Contains}
 use Rattle.std.proofs.lemmas.List.{append_assoc}
 use Rattle.std.proofs.lemmas.List.FromFn.{length-map-range_with_len}
-use Rattle.outside.specs.Array.{Array}
+use Rattle.outside.specs.Array.{Array, bytes_of}
 use Rattle.outside.specs.Blocks.{Block, Bounds, AllSome, AreKept}
 use Rattle.outside.specs.Space.{SpaceView, bounds_of}
 use Rattle.h5_base.specs.declared.extent.MemClass.TheVariants as class
@@ -71,6 +71,12 @@ pub super_not_refused : (s : Superblock) (b : Array) (e : Bounds) (stop : TreeSt
     → IfSome (refusal_of stop) (IsFileRefused b e)
 super_not_refused s b e stop first h x =
     if_some (refusal_of stop) (IsBlockRefused e [] (super_block s) kinds.Super) (IsFileRefused b e) (λ r y. absurd (not_refused e [] (super_block s) kinds.Super r (super_free s b e first h) y)) x
+
+-- what was read is all that may spell the superblock
+pub super_read : {V : Type 0} (view : V → SpaceView) (first here : V) (now items : List ℕ) (len end : ℕ) → here ≡ first → end ≡ (view here).ends class.Super → len ≡ min 100 end → items ≡ bytes_of (view first).array 0 len → now ≡ items
+    → now ≡ super_bytes_of (view first).array (bounds_of (view first) None)
+super_read {V = V} view first here now items len end same is most read value =
+    value ∙ read ∙ ap (bytes_of (view first).array 0) (most ∙ ap (min 100) (is ∙ ap (λ (x : V). (view x).ends class.Super) same))
 
 ok_or_err : {T E : Type 0} (r : Result T E) (x : T) (y : E) → r ≡ Ok x → r ≡ Err y → ⊥
 ok_or_err r x y h k = cc
@@ -224,6 +230,11 @@ pub root_moved : {T : Type 0} (v w : SpaceView) (s : Superblock) (r : Result T T
     → (Spells s (super_bytes_of w.array (bounds_of w None)) → IfErr r (λ stop. IfSome (refusal_of stop) (IsFileRefused w.array (bounds_of w None)))) → IfErr r (λ stop. IfSome (refusal_of stop) (IsFileRefused v.array (bounds_of v None)))
 root_moved v w s r same spelled next =
     subst (λ (a : SpaceView). IfErr r (λ stop. IfSome (refusal_of stop) (IsFileRefused a.array (bounds_of a None)))) (sym same) (next (subst (λ (a : SpaceView). Spells s (super_bytes_of a.array (bounds_of a None))) same spelled))
+
+pub root_told : (v w : SpaceView) (s : Superblock) (r : Result ObjectTree TreeStop) → v ≡ w → Spells s (super_bytes_of v.array (bounds_of v None))
+    → (Spells s (super_bytes_of w.array (bounds_of w None)) → IfOk r (λ kept. IsOpened w.array (bounds_of w None) kept)) → IfOk r (λ kept. IsOpened v.array (bounds_of v None) kept)
+root_told v w s r same spelled next =
+    subst (λ (a : SpaceView). IfOk r (λ kept. IsOpened a.array (bounds_of a None) kept)) (sym same) (next (subst (λ (a : SpaceView). Spells s (super_bytes_of a.array (bounds_of a None))) same spelled))
 
 -- ---- by the results of the calls
 

@@ -1,5 +1,5 @@
 -- The links of a group that were read so far, each with all below it.
-use Rattle.std.proofs.Common.{◌≡◌, ℕ, ◌+◌, ◌≤◌, List, [], ◌∷◌, ◌++◌, map, Option, IfSome, refl, sym, ◌∙◌, ap, subst, arith, inl, inr}
+use Rattle.std.proofs.Common.{◌≡◌, ℕ, ◌+◌, ◌≤◌, List, length, [], ◌∷◌, ◌++◌, map, Option, IfSome, refl, sym, ◌∙◌, ap, subst, arith, inl, inr}
 use Rattle.std.proofs.lemmas.List.{append_assoc, append-nil, map-append}
 use Rattle.outside.specs.Array.{Array}
 use Rattle.outside.specs.Blocks.{Block}
@@ -40,6 +40,14 @@ front_ordered (m ∷ k ∷ ms) n ns h = (h.0, front_ordered (k ∷ ms) n ns h.1)
 -- the names up to the next link's ascend
 pub next_ordered : (items ys : List FoundLink) (x : FoundLink) (rest : List FoundLink) → items ≡ ys ++ x ∷ rest → AreOrdered (names_in items) → AreOrdered (names_in ys ++ x.name ∷ [])
 next_ordered items ys x rest is h = front_ordered (names_in ys) x.name (names_in rest) (subst AreOrdered (ap names_in is ∙ map-append (λ y. y.name) ys (x ∷ rest)) h)
+
+pub next_link : (items ys left : List FoundLink) (x : FoundLink) (rest : List FoundLink) → items ≡ ys ++ left → left ≡ x ∷ rest → items ≡ ys ++ x ∷ rest
+next_link items ys left x rest is first = is ∙ ap (λ (l : List FoundLink). ys ++ l) first
+
+-- nothing is left
+pub all_links : (items ys left : List FoundLink) (len : ℕ) → items ≡ ys ++ left → len ≡ length left → len ≡ 0 → ys ≡ items
+all_links items ys [] len is size none = sym (is ∙ append-nil ys)
+all_links items ys (x ∷ xs) len is size none = absurd (omega (arith, size, none))
 
 -- what is so far in the tree
 abbrev pub GrownSoFar : (old mid : ObjectTree) → ℕ → List FoundLink → KeyedLinks → Type 0

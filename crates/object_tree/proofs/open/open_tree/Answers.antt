@@ -1,8 +1,18 @@
 use Rattle.std.proofs.Common.{None}
 use Rattle.outside.specs.Space.{bounds_of}
 use Rattle.block_space.specs.Blocks.{space_of}
-use Rattle.object_tree.proofs.Rooted.{never_refused, never_stopped, root_moved}
+use Rattle.object_tree.proofs.Rooted.{never_refused, never_stopped, root_moved, root_told}
 use Rattle.object_tree.proofs.open.open_tree.Goals as goal
+
+pub returns-in-Ok-clause-opened : goal.returns-in-Ok-clause-opened
+returns-in-Ok-clause-opened g c = λ told.
+    let v = g.V.Space.view (space_of c.args.blocks.now) in
+    root_told v _ c.in-Ok.superblock c.open_root.result (g.met.V.Space.alike _ _ c.in-Ok.ensures.alike) (c.in-Ok.ensures.found told) (c.open_root.ensures.opened told)
+
+pub returns-in-Ok-clause-refused : goal.returns-in-Ok-clause-refused
+returns-in-Ok-clause-refused g c = λ told.
+    let v = g.V.Space.view (space_of c.args.blocks.now) in
+    root_moved v _ c.in-Ok.superblock c.open_root.result (g.met.V.Space.alike _ _ c.in-Ok.ensures.alike) (c.in-Ok.ensures.found told) (c.open_root.ensures.refused told)
 
 pub returns-in-Ok-clause-complete : goal.returns-in-Ok-clause-complete
 returns-in-Ok-clause-complete g c = λ told s root ls h within.

@@ -1,4 +1,4 @@
-use Rattle.std.proofs.Common.{rules, ◌++◌, ◌∷◌, [], ap, refl, sym, ◌∙◌, arith, map, ◌-◌, ◌+◌}
+use Rattle.std.proofs.Common.{rules, ◌∷◌, [], ap, refl, sym, ◌∙◌, arith, map, ◌-◌, ◌+◌}
 use Rattle.std.proofs.lemmas.List.{append_assoc}
 use Rattle.outside.specs.Space.{SpaceView}
 use Rattle.block_space.specs.Blocks.{space_of}
@@ -14,7 +14,7 @@ use Rattle.object_tree.specs.KValues.{ks_of_values}
 use Rattle.object_tree.specs.Sound.{IsSoundTree}
 use Rattle.object_tree.proofs.Sounds.{sound_insert}
 use Rattle.object_tree.proofs.Growth.{grows_none, grows_more, last_link, adds_leaf}
-use Rattle.object_tree.proofs.SoFar.{lacks_link, so_far_none, so_far_more, refused_next, names_more, ascend_link}
+use Rattle.object_tree.proofs.SoFar.{all_links, lacks_link, next_link, so_far_none, so_far_more, refused_next, names_more, ascend_link}
 use Rattle.object_tree.proofs.Objects.{soft_opened_to, keeps_none, leaf_opened, table_object, refused_counted}
 use Rattle.object_tree.proofs.Joined.{table_read, names_told, opened_to, there_is, group_from, table_refused, each_refused, object_from, object_refused}
 use Rattle.object_tree.proofs.opening.+opening.Goals as goal
@@ -34,7 +34,7 @@ open_each-loop-link-init g c = λ d. record {
 pub open_each-open_link-requires : goal.open_each-open_link-requires
 open_each-open_link-requires g c = λ d κs le.
     let o = d.loop-link.invariant.opened in
-    let is = d.loop-link.invariant.left ∙ ap (λ l. d.loop-link.yielded ++ l) d.in-Some.ensures.steps.0 in
+    let is = next_link d.args.links.items d.loop-link.yielded _ d.in-Some.link _ d.loop-link.invariant.left d.in-Some.ensures.steps.0 in
     let lacks : LacksLink d.loop-link.tree d.args.group d.in-Some.link.name = lacks_link d.args.tree.now d.loop-link.tree d.args.group d.args.links.items d.loop-link.yielded d.in-Some.link _ o.0 o.1 o.2 d.requires.bare is d.requires.ordered in
     let ascend : LinksAscend d.loop-link.tree d.args.group.key = ascend_link d.args.tree.now d.loop-link.tree d.args.group d.args.links.items d.loop-link.yielded d.in-Some.link _ o.0 o.1 o.2 d.requires.bare is d.requires.ordered in
     search rules
@@ -43,7 +43,7 @@ pub open_each-loop-link-preserved : goal.open_each-loop-link-preserved
 open_each-loop-link-preserved g c = λ d.
     let o = d.loop-link.invariant.opened in
     let a = d.in-Ok.ensures.opened in
-    let is = d.loop-link.invariant.left ∙ ap (λ l. d.loop-link.yielded ++ l) d.in-Some.ensures.steps.0 in
+    let is = next_link d.args.links.items d.loop-link.yielded _ d.in-Some.link _ d.loop-link.invariant.left d.in-Some.ensures.steps.0 in
     let same = ap (λ (v : SpaceView). v.array) (g.met.V.Space.alike _ _ d.loop-link.invariant.alike) in
     record {
       stands = search rules;
@@ -61,10 +61,16 @@ open_each-loop-link-preserved g c = λ d.
       );
     }
 
+pub open_each-returns-clause-opened : goal.open_each-returns-clause-opened
+open_each-returns-clause-opened g c = λ d.
+    let o = d.loop-link.invariant.opened in
+    let all = all_links d.args.links.items d.loop-link.yielded _ _ d.loop-link.invariant.left d.loop-link.link-iterator.rest.ok.0 d.in-None.ensures.steps.0 in
+    (o.0, o.1, λ told met keeps. let a = o.3 told met keeps in (a.0, a.1, a.2 ∙ ap (map found_of) all, a.3))
+
 pub open_each-returns-in-Err-clause-refused : goal.open_each-returns-in-Err-clause-refused
 open_each-returns-in-Err-clause-refused g c = λ d told.
     let o = d.loop-link.invariant.opened in
-    let is = d.loop-link.invariant.left ∙ ap (λ l. d.loop-link.yielded ++ l) d.in-Some.ensures.steps.0 in
+    let is = next_link d.args.links.items d.loop-link.yielded _ d.in-Some.link _ d.loop-link.invariant.left d.in-Some.ensures.steps.0 in
     let same = g.met.V.Space.alike _ _ d.loop-link.invariant.alike in
     refused_next g.V.Space.view d.args.blocks.now d.loop-link.blocks _ _ (ks_of_values d.args.ks) d.args.levels d.args.tree.now d.loop-link.tree d.args.group.key o.0 d.args.links.items d.loop-link.yielded d.in-Some.link _ d.in-Err.stop same is o.1 (o.3 told) (d.in-Err.ensures.refused told)
 
