@@ -1,7 +1,8 @@
-use Rattle.std.proofs.Common.{◌≡◌, ◌++◌, ◌+◌, ℕ, List, [], Result, Ok, Err, length, sym, ap, subst, ◌∙◌, inl, inr, refl, arith}
+use Rattle.std.proofs.Common.{◌≡◌, ◌++◌, ◌+◌, ◌≤◌, ℕ, List, [], Result, Ok, Err, length, sym, ap, subst, ◌∙◌, inl, inr, refl, arith}
 use Rattle.std.specs.Prelude.{IfOk, OnOk}
 use Rattle.std.proofs.lemmas.Result.{err_from_is_err_and}
 use Rattle.object_model.specs.Step.{Plain}
+use Rattle.outside.specs.Causes.{Rose}
 use Rattle.script_lines.specs.Lines.{Reading}
 use Rattle.script_lines.specs.declared.reader.NextLine.{NextLine}
 use Rattle.script_lines.specs.declared.reader.NextLine.TheVariants.{Line, Last, End}
@@ -26,6 +27,10 @@ for_each : (r : Result Ended ScriptStop) (Tree : Plain → Type 0) (P Q : Plain 
     → IfOk r (λ e. (t : Plain) → Tree t → Q t e)
 for_each (Ok e) Tree P Q holds step = λ t is. step t is e (holds t is)
 for_each (Err e) Tree P Q holds step = tt
+
+-- a count that rose from a later one on
+rose : (first mid now : ℕ) → first ≤ mid → Rose mid now → Rose first now
+rose first mid now later h = omega (arith, later, h)
 
 pub returns-in_default-clause-in_part : goal.returns-in_default-clause-in_part
 returns-in_default-clause-in_part g c = λ told which t is.
@@ -111,3 +116,39 @@ pub returns-in-End-clause-read : goal.returns-in-End-clause-read
 returns-in-End-clause-read g c = λ told.
     let n = next_at _ End _ c.next.new.self.line _ _ (c.in-Ok-next.ensures.next told) c.in-End.is refl in
     none_left c.next.new.self.held _ n.1
+
+pub returns-in_err-ended-in-Line-clause-stopped : goal.returns-in_err-ended-in-Line-clause-stopped
+returns-in_err-ended-in-Line-clause-stopped g c = λ told which t is.
+    let p = err_from_is_err_and c.from_residual.result c.from_residual.ensures.1 in
+    absurd (elim which [
+      | inl e ↦ c.answer_line.ensures.no_input (carried _ _ _ _ _ c.in_err-ended-in-Line.was p.1 p.2 e)
+      | inr e ↦ c.answer_line.ensures.no_limit (carried _ _ _ _ _ c.in_err-ended-in-Line.was p.1 p.2 e)
+    ])
+
+pub returns-in_err-ended-in-Line-clause-input : goal.returns-in_err-ended-in-Line-clause-input
+returns-in_err-ended-in-Line-clause-input g c = λ e.
+    let p = err_from_is_err_and c.from_residual.result c.from_residual.ensures.1 in
+    absurd (c.answer_line.ensures.no_input (carried _ _ _ _ _ c.in_err-ended-in-Line.was p.1 p.2 e))
+
+pub returns-in_err-ended-in-Line-clause-output : goal.returns-in_err-ended-in-Line-clause-output
+returns-in_err-ended-in-Line-clause-output g c = λ e.
+    let p = err_from_is_err_and c.from_residual.result c.from_residual.ensures.1 in
+    rose _ _ _ c.loop-next.invariant.output_later (c.answer_line.ensures.output (carried _ _ _ _ _ c.in_err-ended-in-Line.was p.1 p.2 e))
+
+pub returns-in_err-ended-in-Line-clause-limit : goal.returns-in_err-ended-in-Line-clause-limit
+returns-in_err-ended-in-Line-clause-limit g c = λ told e.
+    let p = err_from_is_err_and c.from_residual.result c.from_residual.ensures.1 in
+    absurd (c.answer_line.ensures.no_limit (carried _ _ _ _ _ c.in_err-ended-in-Line.was p.1 p.2 e))
+
+pub returns-in-Last-clause-stopped : goal.returns-in-Last-clause-stopped
+returns-in-Last-clause-stopped g c = λ told which t is.
+    absurd (elim which [ inl e ↦ c.answer_line-in-Last.ensures.no_input e | inr e ↦ c.answer_line-in-Last.ensures.no_limit e ])
+
+pub returns-in-Last-clause-input : goal.returns-in-Last-clause-input
+returns-in-Last-clause-input g c = λ e. absurd (c.answer_line-in-Last.ensures.no_input e)
+
+pub returns-in-Last-clause-output : goal.returns-in-Last-clause-output
+returns-in-Last-clause-output g c = λ e. rose _ _ _ c.loop-next.invariant.output_later (c.answer_line-in-Last.ensures.output e)
+
+pub returns-in-Last-clause-limit : goal.returns-in-Last-clause-limit
+returns-in-Last-clause-limit g c = λ told e. absurd (c.answer_line-in-Last.ensures.no_limit e)
