@@ -6,20 +6,16 @@ use std::alloc::Global;
 use std::fmt;
 use std::mem::replace;
 
-/// What differs, first what was wanted and then what the run gave.
+/// What differs: first what was wanted and then what the run gave.
 #[derive(Drop)]
 pub enum What {
-    Out(Texts),
-    Err(Texts),
+    /// A text, by its kind.
+    Text(&'static str, Texts),
     Status(Vec<u8>, u8),
-    /// How many bytes of the script were not taken.
-    Unread(usize, usize),
-    /// How many bytes a file has.
-    Len(usize, usize),
+    /// A number, by what it counts.
+    Count(&'static str, u64, u64),
     /// The byte at an address, where there is one.
     Byte(usize, u8, Option<u8>),
-    /// How many calls were made, at most and really.
-    Calls(u64, u64),
 }
 
 /// The first difference of a run.
@@ -40,17 +36,25 @@ fn show_statuses<W: fmt::Write>(f: &mut fmt::Formatter<W>, wanted: &[u8], got: u
     write!(f, ", got {got}")
 }
 
+fn show_byte<W: fmt::Write>(
+    f: &mut fmt::Formatter<W>,
+    at: usize,
+    wanted: u8,
+    got: Option<u8>,
+) -> fmt::Result {
+    match got {
+        Some(got) => write!(f, "at {at}: wanted {wanted:02X}, got {got:02X}"),
+        None => write!(f, "at {at}: wanted {wanted:02X}, got the end"),
+    }
+}
+
 impl fmt::Display for What {
     fn fmt<W: fmt::Write>(&self, f: &mut fmt::Formatter<W>) -> fmt::Result {
         match self {
-            What::Out(texts) => write!(f, "output: {texts}"),
-            What::Err(texts) => write!(f, "standard error: {texts}"),
-            What::Status(a, b) => show_statuses(f, a.as_slice(), *b),
-            What::Unread(a, b) => write!(f, "bytes not taken: wanted {a}, got {b}"),
-            What::Len(a, b) => write!(f, "bytes of the file: wanted {a}, got {b}"),
-            What::Byte(at, a, Some(b)) => write!(f, "at {at}: wanted {a:02X}, got {b:02X}"),
-            What::Byte(at, a, None) => write!(f, "at {at}: wanted {a:02X}, got the end"),
-            What::Calls(a, b) => write!(f, "calls: wanted at most {a}, got {b}"),
+            What::Text(kind, texts) => write!(f, "{kind}: {texts}"),
+            What::Status(wanted, got) => show_statuses(f, wanted.as_slice(), *got),
+            What::Count(kind, wanted, got) => write!(f, "{kind}: wanted {wanted}, got {got}"),
+            What::Byte(at, wanted, got) => show_byte(f, *at, *wanted, *got),
         }
     }
 }
@@ -64,6 +68,10 @@ fn texts(alloc: Global, wanted: &mut Vec<u8>, got: &mut Vec<u8>) -> Option<Texts
         wanted: replace(wanted, Vec::new(alloc)),
         got: replace(got, Vec::new(alloc)),
     })
+}
+
+fn len_differs(wanted: usize, got: usize) -> What {
+    What::Count("bytes of the file", wanted as u64, got as u64)
 }
 
 // Where the bytes from `at` on differ first.
@@ -83,14 +91,14 @@ fn whole_difference(wanted: &[u8], got: &[u8]) -> Option<What> {
         return None;
     }
     if wanted.len() != got.len() {
-        return Some(What::Len(wanted.len(), got.len()));
+        return Some(len_differs(wanted.len(), got.len()));
     }
     bytes_difference(0, wanted, got)
 }
 
 fn check_difference(check: &Check, before: &[u8], got: &[u8]) -> Option<What> {
     match check {
-        Check::Len(n) if *n != got.len() => Some(What::Len(*n, got.len())),
+        Check::Len(n) if *n != got.len() => Some(len_differs(*n, got.len())),
         Check::Len(_) => None,
         Check::At(at, bytes) => bytes_difference(*at, bytes.as_slice(), got),
         Check::Is(bytes) => whole_difference(bytes.as_slice(), got),
@@ -151,7 +159,7 @@ fn calls_difference(wanted: &Wanted, calls: &[u64]) -> Option<Difference> {
             return Some(Difference {
                 line: limit.line,
                 file: Some(limit.file),
-                what: What::Calls(limit.most, *made),
+                what: What::Count("calls at most", limit.most, *made),
             });
         }
     }
@@ -167,14 +175,14 @@ fn text_difference(alloc: Global, wanted: &mut Wanted, got: &mut Outcome) -> Opt
         return Some(Difference {
             line: line.unwrap_or(wanted.line),
             file: None,
-            what: What::Out(texts),
+            what: What::Text("output", texts),
         });
     }
     let texts = texts(alloc, &mut wanted.err, &mut got.err)?;
     Some(Difference {
         line: wanted.line,
         file: None,
-        what: What::Err(texts),
+        what: What::Text("standard error", texts),
     })
 }
 
@@ -186,7 +194,7 @@ fn status_difference(alloc: Global, wanted: &mut Wanted, got: &Outcome) -> Optio
         if unread == got.unread {
             return None;
         }
-        What::Unread(unread, got.unread)
+        What::Count("bytes not taken", unread as u64, got.unread as u64)
     };
     Some(Difference {
         line: wanted.line,
