@@ -5,8 +5,6 @@ pub mod laws;
 mod line;
 mod run;
 mod stop;
-#[cfg(test)]
-mod tests;
 
 pub use run::answer_script;
 pub use stop::{Ended, ScriptStop};
