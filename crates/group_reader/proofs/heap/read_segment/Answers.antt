@@ -1,4 +1,4 @@
-use Rattle.std.proofs.Common.{◌≡◌, IfOk, IfSome, sym, ◌∙◌, ap, subst}
+use Rattle.std.proofs.Common.{◌≡◌, IfOk, sym, ◌∙◌, ap, subst}
 use Rattle.outside.specs.Array.{bytes_of}
 use Rattle.outside.specs.Blocks.{placed}
 use Rattle.block_space.specs.Blocks.{space_of}

@@ -1,4 +1,4 @@
-use Rattle.std.proofs.Common.{Err, [], ◌∷◌, ◌++◌, ap, ◌∙◌}
+use Rattle.std.proofs.Common.{Err, [], ◌∷◌, ◌++◌, ap, ◌∙◌, arith}
 use Rattle.outside.specs.Space.{bounds_of}
 use Rattle.block_space.specs.Blocks.{space_of}
 use Rattle.block_reader.specs.Stops.{refusal_of}
@@ -35,3 +35,6 @@ returns-clause-listed g c = on_ok c.push_entries.result _ (c.requires.listed.0 +
 
 pub returns-clause-cause : goal.returns-clause-cause
 returns-clause-cause g c = λ failed. absurd (c.push_entries.ensures.no_fault failed)
+
+pub take-requires-clause-some : goal.take-requires-clause-some
+take-requires-clause-some g c = omega (arith, c.snod_size-len.ensures)

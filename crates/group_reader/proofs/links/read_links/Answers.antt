@@ -1,4 +1,4 @@
-use Rattle.std.proofs.Common.{sym, ◌∙◌, ℕ}
+use Rattle.std.proofs.Common.{sym, ◌∙◌, ℕ, arith}
 use Rattle.outside.specs.Space.{bounds_of}
 use Rattle.block_space.specs.Blocks.{space_of}
 use Rattle.file_model.specs.Groups.{Ks, HasLinks}
@@ -63,3 +63,8 @@ read_tree-requires-clause-listed g c = (_, c.in-Ok-read_segment.ensures.taken _ 
 
 pub returns-clause-small : goal.returns-clause-small
 returns-clause-small g c = λ tells. on_ok c.read_tree.result _ (small_heap (array_of g.V.Space.view c.args.blocks.now) c.args.heap_at c.in-Ok.head (c.in-Ok.ensures.found tells) c.in-Ok.ensures.small)
+
+pub returns-clause-cause : goal.returns-clause-cause
+returns-clause-cause g c = λ failed.
+    let rose = c.read_tree.ensures.cause failed in
+    omega (arith, rose, c.in-Ok-read_segment.ensures.later, c.in-Ok.ensures.later)

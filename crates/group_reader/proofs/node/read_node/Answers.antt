@@ -1,4 +1,4 @@
-use Rattle.std.proofs.Common.{Err, ap, ◌∙◌}
+use Rattle.std.proofs.Common.{Err, ap, ◌∙◌, arith}
 use Rattle.outside.specs.Space.{bounds_of}
 use Rattle.block_space.specs.Blocks.{space_of}
 use Rattle.block_reader.specs.Stops.{refusal_of}
@@ -24,3 +24,6 @@ returns-in-Ok-read_group_node-clause-found g c = λ tells.
 pub returns-in-Ok-read_group_node-clause-taken : goal.returns-in-Ok-read_group_node-clause-taken
 returns-in-Ok-read_group_node-clause-taken g c =
     node_taken g.V.Space.view c.args.blocks.now c.take.new.blocks c.args.internal_k c.args.at _ c.group_node_size-len.ensures c.in-Ok.ensures.found
+
+pub take-requires-clause-some : goal.take-requires-clause-some
+take-requires-clause-some g c = omega (arith, c.group_node_size-len.ensures)
