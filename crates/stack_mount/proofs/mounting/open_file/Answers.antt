@@ -3,6 +3,7 @@ use Rattle.outside.specs.Array.{array_of}
 use Rattle.plain_space.specs.Alike.{same_file}
 use Rattle.plain_space.specs.File.{file_in, seen}
 use Rattle.plain_space.proofs.Views.{array_told}
+use Rattle.stack_mount.proofs.Seen.{names_given, seen_call, seen_on}
 use Rattle.stack_mount.proofs.mounting.open_file.Goals as goal
 
 pub returns-in-Ok-open-clause-end : goal.returns-in-Ok-open-clause-end
@@ -22,3 +23,25 @@ returns-in-Ok-open-clause-array g c = λ told.
     (same_file g.S.Store.tells_files v w c.in-Ok.id.n space.id.n c.in-Ok-open.ensures.looks.names c.in-Ok-open.ensures.looks.goes c.in-Ok-open.ensures.id told
     ∙ ap (λ (q : List ℕ). v.files q) c.in-Ok.ensures.given.named
     ∙ c.in-Ok.ensures.call.others told c.args.file.now (λ changed. changed))
+
+pub returns-in-Ok-open-clause-left : goal.returns-in-Ok-open-clause-left
+returns-in-Ok-open-clause-left g c =
+    let call = c.file.ensures in
+    let names = names_given c.args.file.now c.in-Ok.id.n (g.S.Store.view c.args.store) (g.S.Store.view c.file.new.self) c.in-Ok.ensures.given in
+    seen_on _ _ _ _ _ _ _ _ _ _ _ _ (seen_call g.S.Store.tells_files g.S.Store.tells_images _ _ _ _ _ _ _ _ call.call names call.images call.time) c.in-Ok-open.ensures.looks
+
+pub returns-in-Err-NoMemory-clause-left : goal.returns-in-Err-NoMemory-clause-left
+returns-in-Err-NoMemory-clause-left g c =
+    let call = c.file.ensures in
+    seen_call g.S.Store.tells_files g.S.Store.tells_images _ _ _ _ _ _ _ _ call.call (λ i some. ap (λ (f : ℕ → List ℕ). f i) c.in-Err-NoMemory.ensures.same.names) call.images call.time
+
+pub returns-in-Err-Failed-clause-left : goal.returns-in-Err-Failed-clause-left
+returns-in-Err-Failed-clause-left g c =
+    let call = c.file.ensures in
+    seen_call g.S.Store.tells_files g.S.Store.tells_images _ _ _ _ _ _ _ _ call.call (λ i some. ap (λ (f : ℕ → List ℕ). f i) c.in-Err-Failed.ensures.same.names) call.images call.time
+
+pub returns-in-Err-clause-left : goal.returns-in-Err-clause-left
+returns-in-Err-clause-left g c =
+    let call = c.file.ensures in
+    let names = names_given c.args.file.now c.in-Ok.id.n (g.S.Store.view c.args.store) (g.S.Store.view c.file.new.self) c.in-Ok.ensures.given in
+    seen_on _ _ _ _ _ _ _ _ _ _ _ _ (seen_call g.S.Store.tells_files g.S.Store.tells_images _ _ _ _ _ _ _ _ call.call names call.images call.time) c.in-Err.ensures.looks
