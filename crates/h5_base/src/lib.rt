@@ -10,6 +10,7 @@ mod link_name;
 mod list;
 mod name;
 mod numbers;
+mod refusal;
 
 pub use bytes::Bytes;
 pub use comment::{Comment, CommentStop};
@@ -22,6 +23,7 @@ pub use link_name::LinkName;
 pub use list::List;
 pub use name::{Name, NameStop};
 pub use numbers::{put_u64s, read_u64s};
+pub use refusal::{Refusal, Stop};
 use thiserror::Error;
 
 /// Why a reader of a block that takes memory gives no value.

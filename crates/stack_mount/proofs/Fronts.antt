@@ -8,8 +8,8 @@ use Rattle.super_codec.specs.declared.superblock.SuperStop.{SuperStop}
 use Rattle.file_model.specs.Holds.{super_bytes_of}
 use Rattle.file_model.specs.Laws.{one_region}
 use Rattle.stack_mount.specs.Mounted.{IsRefused, ShortFile, IsAdmitted, LacksSuper, of_super}
-use Rattle.stack_mount.specs.declared.faults.MountFault.{MountFault}
-use Rattle.stack_mount.specs.declared.faults.MountFault.TheVariants as mount_fault
+use Rattle.h5_base.specs.declared.refusal.Refusal.{Refusal}
+use Rattle.h5_base.specs.declared.refusal.Refusal.TheVariants as why
 
 -- the bytes that were read are those that a superblock is looked for in
 pub front_read : (b : Array) (end m : ℕ) (buffer front : List ℕ) → m ≡ min end 100 → length buffer ≡ 100 → front ≡ bytes_of b 0 (length (take m buffer))
@@ -26,8 +26,8 @@ lacking_front b end front e same none stop = record {
   line = ap of_super (stop ∙ ap stop_of same);
 }
 
-pub short_file : (b : Array) (m n : ℕ) (s : Superblock) → m ≡ n → Spells s (super_bytes_of b (one_region m)) → m < s.end_at → IsRefused b n (mount_fault.Truncated m s.end_at)
-short_file b m n s same spelled short = let Refused : ℕ → Type 0 = λ k. IsRefused b k (mount_fault.Truncated m s.end_at) in subst Refused same (ShortFile s spelled short refl)
+pub short_file : (b : Array) (m n : ℕ) (s : Superblock) → m ≡ n → Spells s (super_bytes_of b (one_region m)) → m < s.end_at → IsRefused b n (why.Truncated m s.end_at)
+short_file b m n s same spelled short = let Refused : ℕ → Type 0 = λ k. IsRefused b k (why.Truncated m s.end_at) in subst Refused same (ShortFile s spelled short refl)
 
 pub admitted_at : (b c : Array) (m n : ℕ) → b ≡ c → m ≡ n → IsAdmitted b m → IsAdmitted c n
 admitted_at b c m n array end admitted =
@@ -35,7 +35,7 @@ admitted_at b c m n array end admitted =
     let AtEnd : ℕ → Type 0 = λ k. IsAdmitted b k in
     subst AtArray array (subst AtEnd end admitted)
 
-pub refused_at : (b c : Array) (m n : ℕ) (f : MountFault) → b ≡ c → m ≡ n → IsRefused b m f → IsRefused c n f
+pub refused_at : (b c : Array) (m n : ℕ) (f : Refusal) → b ≡ c → m ≡ n → IsRefused b m f → IsRefused c n f
 refused_at b c m n f array end refused =
     let AtArray : Array → Type 0 = λ a. IsRefused a n f in
     let AtEnd : ℕ → Type 0 = λ k. IsRefused b k f in

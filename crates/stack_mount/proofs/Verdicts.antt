@@ -7,7 +7,7 @@ use Rattle.super_codec.specs.declared.superblock.Superblock.{Superblock}
 use Rattle.file_model.specs.Holds.{super_bytes_of}
 use Rattle.file_model.specs.Laws.{one_region}
 use Rattle.stack_mount.specs.Mounted.{EmptyFile, NoSuper, ShortFile, OneVerdict, OneFault}
-use Rattle.stack_mount.specs.declared.faults.MountFault.TheVariants as mount_fault
+use Rattle.h5_base.specs.declared.refusal.Refusal.TheVariants as why
 
 -- what spells a superblock isn't empty
 some_bytes : (b : Array) (end : ℕ) (s : Superblock) → Spells s (super_bytes_of b (one_region end)) → end ≢ 0
@@ -31,4 +31,4 @@ one_fault b end f g (ShortFile s spelled short is) (EmptyFile empty that) = absu
 one_fault b end f g (ShortFile s spelled short is) (NoSuper some lacks) = absurd (lacks.none s spelled)
 one_fault b end f g (ShortFile s spelled short is) (ShortFile r spells less that) =
     let same : s ≡ r = spelled.value ∙ sym spells.value in
-    is ∙ ap (λ (x : Superblock). mount_fault.Truncated end x.end_at) same ∙ sym that
+    is ∙ ap (λ (x : Superblock). why.Truncated end x.end_at) same ∙ sym that

@@ -13,35 +13,26 @@ use Rattle.file_model.specs.Holds.{super_bytes_of}
 use Rattle.file_model.specs.Laws.{one_region}
 use Rattle.plain_space.specs.Plain.{store_of}
 use Rattle.plain_space.specs.declared.space.PlainSpace.{PlainSpace}
-use Rattle.stack_mount.specs.declared.faults.MountFault.{MountFault}
-use Rattle.stack_mount.specs.declared.faults.MountFault.TheVariants as mount_fault
+use Rattle.h5_base.specs.declared.refusal.Refusal.{Refusal}
+use Rattle.h5_base.specs.declared.refusal.Refusal.TheVariants as why
 use Rattle.stack_mount.specs.declared.faults.MountRefused.{MountRefused}
 
--- a refusal of the file, which its bytes show: neither a fault of the store nor want of memory
-abbrev pub IsLine : MountFault → Type 0
-IsLine mount_fault.Absent = Unit {0}
-IsLine (mount_fault.Malformed at kind) = Unit {0}
-IsLine (mount_fault.Unsupported what) = Unit {0}
-IsLine (mount_fault.Truncated actual stored) = Unit {0}
-IsLine mount_fault.Failed = ⊥
-IsLine mount_fault.NoMemory = ⊥
-
 -- why bytes that spell no superblock are refused
-abbrev pub of_super : SuperStop → MountFault
-of_super stop.NotThis = mount_fault.Malformed 0 block_kind.Super
-of_super (stop.Unsupported what) = mount_fault.Unsupported what
+abbrev pub of_super : SuperStop → Refusal
+of_super stop.NotThis = why.Malformed 0 block_kind.Super
+of_super (stop.Unsupported what) = why.Unsupported what
 
 -- the bytes spell no superblock below the end, and this is the refusal
-pub record LacksSuper (b : Array) (end : ℕ) (fault : MountFault) : Type 0 where
+pub record LacksSuper (b : Array) (end : ℕ) (reason : Refusal) : Type 0 where
   pub none : (s : Superblock) → Spells s (super_bytes_of b (one_region end)) → ⊥
-  pub line : fault ≡ of_super (stop_of (super_bytes_of b (one_region end)))
+  pub line : reason ≡ of_super (stop_of (super_bytes_of b (one_region end)))
 
 -- The file is refused, the first of: it is empty, its superblock isn't spelled, it ends before the end that is stored.
-pub data IsRefused (b : Array) (end : ℕ) (fault : MountFault) : Type 0 where
-  EmptyFile : end ≡ 0 → fault ≡ mount_fault.Absent → IsRefused b end fault
-  NoSuper : end ≢ 0 → LacksSuper b end fault → IsRefused b end fault
-  ShortFile : (s : Superblock) → Spells s (super_bytes_of b (one_region end)) → end < s.end_at → fault ≡ mount_fault.Truncated end s.end_at
-      → IsRefused b end fault
+pub data IsRefused (b : Array) (end : ℕ) (reason : Refusal) : Type 0 where
+  EmptyFile : end ≡ 0 → reason ≡ why.Absent → IsRefused b end reason
+  NoSuper : end ≢ 0 → LacksSuper b end reason → IsRefused b end reason
+  ShortFile : (s : Superblock) → Spells s (super_bytes_of b (one_region end)) → end < s.end_at → reason ≡ why.Truncated end s.end_at
+      → IsRefused b end reason
 
 -- The file is mounted: it isn't empty, a superblock is spelled, and the end that it stores is no greater.
 pub record IsAdmitted (b : Array) (end : ℕ) : Type 0 where
@@ -52,11 +43,11 @@ pub record IsAdmitted (b : Array) (end : ℕ) : Type 0 where
 
 -- no file is refused and mounted
 abbrev pub OneVerdict : Type 0
-OneVerdict = (b : Array) (end : ℕ) (f : MountFault) → IsRefused b end f → IsAdmitted b end → ⊥
+OneVerdict = (b : Array) (end : ℕ) (f : Refusal) → IsRefused b end f → IsAdmitted b end → ⊥
 
 -- a file is refused for one reason
 abbrev pub OneFault : Type 0
-OneFault = (b : Array) (end : ℕ) (f g : MountFault) → IsRefused b end f → IsRefused b end g → f ≡ g
+OneFault = (b : Array) (end : ℕ) (f g : Refusal) → IsRefused b end f → IsRefused b end g → f ≡ g
 
 -- the store after a file was mounted, or wasn't
 abbrev pub store_left : {S : Type 0} → Result (PlainSpace S) (MountRefused S) → S

@@ -1,15 +1,16 @@
 ghost use Rattle.std.specs.Prelude.{◌≡◌, ◌≤◌, ℕ, [], length, IsTrue, IfOk, IfErr, OnOk};
 ghost use Rattle.h5_base.specs.Names.{IsName};
+ghost use Rattle.h5_base.specs.declared.refusal.Refusal.{Refusal};
 ghost use Rattle.outside.specs.Array.{array_of};
 ghost use Rattle.outside.specs.Files.{Files};
 ghost use Rattle.outside.specs.Store.{Goes, GoesOver, SomeRose};
 ghost use Rattle.plain_space.specs.File.{seen, view_of};
 ghost use Rattle.plain_space.specs.Plain.{store_of, id_of, end_of};
-ghost use Rattle.stack_mount.specs.Mounted.{IsLine, IsRefused, IsAdmitted, IsOnlySeen, store_left};
+ghost use Rattle.stack_mount.specs.Mounted.{IsRefused, IsAdmitted, IsOnlySeen, store_left};
 
-use crate::faults::{MountFault, MountRefused};
+use crate::faults::MountRefused;
 use crate::judging::judge;
-use h5_base::Name;
+use h5_base::{Name, Stop};
 use outside::{FileStop, Space, Store};
 use plain_space::{OpenRefused, PlainSpace};
 use std::alloc::Global;
@@ -25,8 +26,8 @@ fn open_file<S: Store>(
     ensures view { IfOk result (λ space. ⟦<PlainSpace<S> as Space>⟧.view space ≡ view_of S.tells_files (S.view (store_of space)) (id_of space) (end_of space) []) }
     ensures end { IsTrue S.tells_files → IfOk result (λ space. end_of space ≡ length (seen ((S.view store).files file.now))) }
     ensures array { IsTrue S.tells_files → IfOk result (λ space. (⟦<PlainSpace<S> as Space>⟧.view space).array ≡ array_of (seen ((S.view store).files file.now))) }
-    ensures no_line { IfErr result (λ refused. IsLine refused.fault → ⊥) }
-    ensures failed { IfErr result (λ refused. refused.fault ≡ MountFault.Failed → SomeRose (S.view store) (S.view refused.store)) }
+    ensures no_line { IfErr result (λ refused. (why : Refusal) → refused.fault ≡ Stop.Refused why → ⊥) }
+    ensures failed { IfErr result (λ refused. refused.fault ≡ Stop.Failed → SomeRose (S.view store) (S.view refused.store)) }
     ensures left { IsOnlySeen S.tells_files S.tells_images (S.view store) (S.view (store_left result)) (S.leaves store) (S.leaves (store_left result)) (S.past store) (S.past (store_left result)) }
 {
     let _text = file.as_slice();
@@ -35,13 +36,13 @@ fn open_file<S: Store>(
         Err(FileStop::NoMemory) => {
             return Err(MountRefused {
                 store,
-                fault: MountFault::NoMemory,
+                fault: Stop::NoMemory,
             });
         }
         Err(FileStop::Failed) => {
             return Err(MountRefused {
                 store,
-                fault: MountFault::Failed,
+                fault: Stop::Failed,
             });
         }
     };
@@ -49,7 +50,7 @@ fn open_file<S: Store>(
         Ok(space) => Ok(space),
         Err(OpenRefused { store }) => Err(MountRefused {
             store,
-            fault: MountFault::Failed,
+            fault: Stop::Failed,
         }),
     }
 }
@@ -71,9 +72,9 @@ pub fn mount<S: Store>(
     ensures end { IsTrue S.tells_files → IfOk result (λ space. end_of space ≡ length (seen ((S.view store).files file.now))) }
     // What is judged.
     ensures admitted { IsTrue S.tells_files → OnOk result (IsAdmitted (array_of (seen ((S.view store).files file.now))) (length (seen ((S.view store).files file.now)))) }
-    ensures refused { IsTrue S.tells_files → IfErr result (λ refused. IsLine refused.fault
-        → IsRefused (array_of (seen ((S.view store).files file.now))) (length (seen ((S.view store).files file.now))) refused.fault) }
-    ensures failed { IfErr result (λ refused. refused.fault ≡ MountFault.Failed → SomeRose (S.view store) (S.view refused.store)) }
+    ensures refused { IsTrue S.tells_files → IfErr result (λ refused. (why : Refusal) → refused.fault ≡ Stop.Refused why
+        → IsRefused (array_of (seen ((S.view store).files file.now))) (length (seen ((S.view store).files file.now))) why) }
+    ensures failed { IfErr result (λ refused. refused.fault ≡ Stop.Failed → SomeRose (S.view store) (S.view refused.store)) }
     // The store that is left, in the space or in the refusal.
     ensures goes { Goes S.tells_files (λ _. ⊥) (S.view store) (S.view (store_left result)) }
     ensures fewer { IsTrue S.tells_images → (c : Files) → S.leaves (store_left result) c → S.leaves store c }

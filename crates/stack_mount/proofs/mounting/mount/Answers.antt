@@ -6,7 +6,7 @@ use Rattle.stack_mount.proofs.Fronts.{admitted_at, refused_at}
 use Rattle.stack_mount.proofs.mounting.mount.Goals as goal
 
 pub returns-in-Err-clause-refused : goal.returns-in-Err-clause-refused
-returns-in-Err-clause-refused g c = λ told line. absurd (c.in-Err.ensures.no_line line)
+returns-in-Err-clause-refused g c = λ told why is. absurd (c.in-Err.ensures.no_line why is)
 
 pub returns-in-Ok-judge-clause-array : goal.returns-in-Ok-judge-clause-array
 returns-in-Ok-judge-clause-array g c = λ told.
@@ -21,8 +21,8 @@ returns-in-Ok-judge-clause-admitted g c = λ told.
     admitted_at _ _ _ _ (c.in-Ok.ensures.array told) (c.in-Ok.ensures.end told) (c.in-Ok-judge.ensures.admitted told)
 
 pub returns-in-Err-judge-clause-refused : goal.returns-in-Err-judge-clause-refused
-returns-in-Err-judge-clause-refused g c = λ told line.
-    refused_at _ _ _ _ c.in-Err-judge.fault (c.in-Ok.ensures.array told) (c.in-Ok.ensures.end told) (c.in-Err-judge.ensures.refused told line)
+returns-in-Err-judge-clause-refused g c = λ told why is.
+    refused_at _ _ _ _ why (c.in-Ok.ensures.array told) (c.in-Ok.ensures.end told) (c.in-Err-judge.ensures.refused told why is)
 
 pub returns-in-Err-judge-clause-goes : goal.returns-in-Err-judge-clause-goes
 returns-in-Err-judge-clause-goes g c =
