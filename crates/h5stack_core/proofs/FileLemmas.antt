@@ -13,40 +13,38 @@ use Rattle.file_model.specs.Laws.{one_region}
 use Rattle.plain_space.specs.File.{file_in, view_of}
 use Rattle.stack_mount.proofs.Verdicts.{one_verdict}
 use Rattle.file_model.proofs.NoRefusal as tree
-use Rattle.stack_mount.specs.Mounted.{IsRefused, IsAdmitted, IsLine}
-use Rattle.stack_mount.specs.declared.faults.MountFault.{MountFault}
-use Rattle.stack_mount.specs.declared.faults.MountFault.TheVariants as fault
-use Rattle.h5stack_core.specs.Actions.{HasReason, SameFiles}
-use Rattle.h5stack_core.specs.Files.{Opens, IsRefusedFile, AtMount, InTree, array_in, end_in, unmounted}
-use Rattle.h5stack_core.specs.Runs.{HoldsWithin, IsRefusedTree, RunTo, IfClosed}
-use Rattle.h5stack_core.specs.declared.ending.Refusal.{Refusal}
+use Rattle.stack_mount.specs.Mounted.{IsRefused, IsAdmitted}
+use Rattle.h5_base.specs.declared.refusal.Stop.{Stop}
+use Rattle.h5_base.specs.declared.refusal.Stop.TheVariants as stop
+use Rattle.h5stack_core.specs.Endings.{stopped}
+use Rattle.h5stack_core.specs.Stores.{SameFiles}
+use Rattle.h5stack_core.specs.Files.{Opens, IsRefusedFile, AtMount, InTree, array_in, end_in}
+use Rattle.h5stack_core.specs.Script.{HoldsWithin, IsRefusedTree, Transcript, Answers, IfClosed}
+use Rattle.h5_base.specs.declared.refusal.Refusal.{Refusal}
 use Rattle.h5stack_core.specs.declared.ending.Ending.{Ending}
-use Rattle.h5stack_core.specs.declared.ending.Ending.TheVariants.{Done, SomeNot, Words, Store, Refused, Input, Output, Memory, Limit}
+use Rattle.h5stack_core.specs.declared.ending.Ending.TheVariants.{Done, SomeNot, Words, Store, Refused, Input, Output, Memory, ScriptMemory, Limit}
 use Rattle.h5stack_core.proofs.RunLemmas.{run_on}
 
 bounds_seen : (view : SpaceView) (file : List ℕ) (tells : Bool) (v : View) (id end : ℕ) → view ≡ view_of tells v id end [] → end ≡ end_in file → bounds_of view None ≡ one_region (end_in file)
 bounds_seen view file tells v id end is same = (λ k. bounds_of (is k) None) ∙ (λ k. one_region (same k))
 
 -- a run over the space of a file is a run over the file
-pub file_run : (view : SpaceView) (file : List ℕ) (tells : Bool) (v : View) (id end : ℕ) (reads prints : Bool) (script left old new : List ℕ) (e : Ending) → view ≡ view_of tells v id end [] → view.array ≡ array_in file
-    → end ≡ end_in file → IsAdmitted (array_in file) (end_in file) → RunTo (HoldsWithin view.array (bounds_of view None)) (IsRefusedTree view.array (bounds_of view None)) reads prints script left old new e
-    → RunTo (Opens file) (IsRefusedFile file) reads prints script left old new e
-file_run view file tells v id end reads prints script left old new e is array same admitted h =
+pub file_run : (view : SpaceView) (file : List ℕ) (tells : Bool) (v : View) (id end : ℕ) (x : Transcript) (e : Ending) → view ≡ view_of tells v id end [] → view.array ≡ array_in file
+    → end ≡ end_in file → IsAdmitted (array_in file) (end_in file) → Answers (HoldsWithin view.array (bounds_of view None)) (IsRefusedTree view.array (bounds_of view None)) x e
+    → Answers (Opens file) (IsRefusedFile file) x e
+file_run view file tells v id end x e is array same admitted h =
     let bounds = bounds_seen view file tells v id end is same in
-    run_on (HoldsWithin view.array (bounds_of view None)) (Opens file) (IsRefusedTree view.array (bounds_of view None)) (IsRefusedFile file) reads prints script left old new e
+    run_on (HoldsWithin view.array (bounds_of view None)) (Opens file) (IsRefusedTree view.array (bounds_of view None)) (IsRefusedFile file) x e
     (λ t holds. record { admitted = admitted; held = subst (λ (b : Array). HoldsWithin b (one_region (end_in file)) t) array (subst (λ (f : Bounds). HoldsWithin view.array f t) bounds holds) })
     (λ r why. InTree admitted (subst (λ (b : Array). IsRefusedTree b (one_region (end_in file)) r) array (subst (λ (f : Bounds). IsRefusedTree view.array f r) bounds why)))
     h
 
 -- a file that isn't mounted
-pub unmounted_run : (file : List ℕ) (reads prints : Bool) (script old : List ℕ) (f : MountFault) → (IsLine f → IsRefused (array_in file) (end_in file) f)
-    → RunTo (Opens file) (IsRefusedFile file) reads prints script script old old (unmounted f)
-unmounted_run file reads prints script old fault.Absent h = AtMount fault.Absent (h tt) refl
-unmounted_run file reads prints script old (fault.Malformed at kind) h = AtMount (fault.Malformed at kind) (h tt) refl
-unmounted_run file reads prints script old (fault.Unsupported what) h = AtMount (fault.Unsupported what) (h tt) refl
-unmounted_run file reads prints script old (fault.Truncated actual stored) h = AtMount (fault.Truncated actual stored) (h tt) refl
-unmounted_run file reads prints script old fault.Failed h = inl (λ told. refl)
-unmounted_run file reads prints script old fault.NoMemory h = inl (λ told. refl)
+pub unmounted_run : (file : List ℕ) (reads prints : Bool) (script old : List ℕ) (s : Stop) → ((why : Refusal) → s ≡ stop.Refused why → IsRefused (array_in file) (end_in file) why)
+    → Answers (Opens file) (IsRefusedFile file) (record { reads = reads; prints = prints; script = script; left = script; old = old; new = old }) (stopped s)
+unmounted_run file reads prints script old (stop.Refused why) h = AtMount (h why refl)
+unmounted_run file reads prints script old stop.Failed h = inl (λ told. refl)
+unmounted_run file reads prints script old stop.NoMemory h = tt
 
 goes_wider : (tells : Bool) (P Q : List ℕ → Type 0) (v w : View) → ((q : List ℕ) → P q → Q q) → Goes tells P v w → Goes tells Q v w
 goes_wider tells P Q v w within goes = record {
@@ -86,25 +84,15 @@ closed_on (Refused reason) X Y on h = tt
 closed_on Input X Y on h = on h
 closed_on Output X Y on h = on h
 closed_on Memory X Y on h = tt
+closed_on ScriptMemory X Y on h = on h
 closed_on Limit X Y on h = on h
 
 -- what rests as it reads, by the file's name
 pub rests_named : (name file : List ℕ) (id : ℕ) (w : View) (leaves : Files → Type 0) → w.names id ≡ name → w.files name ≡ file → RestsAt (w.names id) (file_in w id) leaves → RestsAt name file leaves
 rests_named name file id w leaves named is rests c left = (λ k. c (sym named k)) ∙ rests c left ∙ (λ k. w.files (named k)) ∙ is
 
-pub reason_on : (F G : Type 0) (i j o p : ℕ) (e : Ending) → (F → G) → HasReason F i j o p e → HasReason G i j o p e
-reason_on F G i j o p Done on h = tt
-reason_on F G i j o p SomeNot on h = tt
-reason_on F G i j o p (Words fault) on h = tt
-reason_on F G i j o p Store on h = on h
-reason_on F G i j o p (Refused why) on h = tt
-reason_on F G i j o p Input on h = h
-reason_on F G i j o p Output on h = h
-reason_on F G i j o p Memory on h = tt
-reason_on F G i j o p Limit on h = tt
-
 -- a file that is opened is refused by no line
 pub opens_refused_by_none : (file : List ℕ) (t : Plain) (r : Refusal) → Opens file t → IsRefusedFile file r → ⊥
-opens_refused_by_none file t r opens (AtMount f is same) = one_verdict (array_in file) (end_in file) f is opens.admitted
+opens_refused_by_none file t r opens (AtMount is) = one_verdict (array_in file) (end_in file) r is opens.admitted
 opens_refused_by_none file t r opens (InTree admitted why) =
     tree.not_refused_file (array_in file) (one_region (end_in file)) opens.held.superblock opens.held.root opens.held.links opens.held.full why.0 opens.held.within why.1

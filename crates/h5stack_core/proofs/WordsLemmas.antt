@@ -8,7 +8,9 @@ use Rattle.std.proofs.Common.{length-drop, nat_le, ◌==◌}
 use Rattle.h5stack_core.specs.declared.words.WordFault.TheVariants.{Unknown, NotBuilt, Order, Name}
 use Rattle.h5_base.specs.Names.{IsName}
 use Rattle.h5stack_core.specs.declared.words.WordFault.{WordFault}
-use Rattle.h5stack_core.specs.Words.{is_file_byte, is_file_name, is_plain, is_later_layer, is_onion, is_run, file_of, base_fault, action_fault, after_action, after_base, first_of_two, word_fault, named, texts}
+use Rattle.std.specs.Prelude.{Ok, Err}
+use Rattle.h5stack_core.specs.declared.asked.Asked.TheVariants.{Create, Run}
+use Rattle.h5stack_core.specs.Words.{asked_by, asks_run, unless_faulty, wish, is_file_byte, is_file_name, is_plain, is_later_layer, is_onion, is_run, file_of, base_fault, action_fault, after_action, after_base, first_of_two, word_fault, named, texts}
 use Rattle.std.proofs.lemmas.List.{length-map}
 use Rattle.std.specs.Prelude.{string_bytes, String}
 use Rattle.std.specs.declared.alloc.Global.{Global}
@@ -99,3 +101,16 @@ second (a ∷ b ∷ rest) w h is =
 
 pub two_words : (items : List (String Global)) → word_fault (texts items) ≡ None → 2 ≤ length items
 two_words items h = omega (arith, (admitted (texts items) h).two, length-map items string_bytes)
+
+-- what admitted words ask for, and the fault of others
+pub asked_run : (words : List (List ℕ)) (file : List ℕ) → word_fault words ≡ None → asks_run words ≡ true → file ≡ named words → asked_by words ≡ Ok (Run file)
+asked_run words file none runs is = (λ k. unless_faulty (none k) (cond (runs k) (Run (named words)) (Create (named words)))) ∙ (λ k. Ok (Run (sym is k)))
+
+pub asked_create : (words : List (List ℕ)) (file : List ℕ) → word_fault words ≡ None → asks_run words ≡ false → file ≡ named words → asked_by words ≡ Ok (Create file)
+asked_create words file none runs is = (λ k. unless_faulty (none k) (cond (runs k) (Run (named words)) (Create (named words)))) ∙ (λ k. Ok (Create (sym is k)))
+
+pub asked_fault : (words : List (List ℕ)) (fault : WordFault) → word_fault words ≡ Some fault → asked_by words ≡ Err fault
+asked_fault words fault is = λ k. unless_faulty (is k) (wish words)
+
+pub asked_none : (words : List (List ℕ)) (fault : WordFault) → word_fault words ≡ None → asked_by words ≡ Err fault → ⊥
+asked_none words fault none is = let admitted : asked_by words ≡ Ok (wish words) = (λ k. unless_faulty (none k) (wish words)) in cc

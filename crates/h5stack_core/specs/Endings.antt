@@ -1,73 +1,84 @@
--- How the program ends: the status of each ending, and its line on standard error.
+-- How the program ends: the exit status of each way, and its line on standard error.
 -- Cited by `run` and by the functions that it is made of.
-use Rattle.std.specs.Prelude.{◌≡◌, ◌⊎◌, ℕ, ◌==◌, List, [], ◌++◌, codes, if◌then◌else◌}
-use Rattle.std.specs.Fmt.{decimal}
-use Rattle.h5_base.specs.declared.kinds.BlockKind.{BlockKind}
-use Rattle.h5_base.specs.declared.kinds.BlockKind.TheVariants as kind
-use Rattle.h5_base.specs.declared.kinds.What.{What}
-use Rattle.h5_base.specs.declared.kinds.What.TheVariants as what
+use Rattle.std.specs.Prelude.{ℕ, List, [], codes}
+use Rattle.h5_base.specs.Refusals.{line_of}
+use Rattle.h5_base.specs.declared.refusal.Stop.{Stop}
+use Rattle.h5_base.specs.declared.refusal.Stop.TheVariants as stop
 use Rattle.h5stack_core.specs.Words.{usage_line}
-use Rattle.h5stack_core.specs.declared.ending.Refusal.{Refusal}
-use Rattle.h5stack_core.specs.declared.ending.Refusal.TheVariants.{Exists, Absent, Malformed, Unsupported, Truncated, LinkedTwice, Overlap, TooDeep, TooMany}
 use Rattle.h5stack_core.specs.declared.ending.Ending.{Ending}
-use Rattle.h5stack_core.specs.declared.ending.Ending.TheVariants.{Done, SomeNot, Words, Store, Refused, Input, Output, Memory, Limit}
+use Rattle.h5stack_core.specs.declared.ending.Ending.TheVariants.{Done, SomeNot, Words, Store, Refused, Input, Output, Memory, ScriptMemory, Limit}
 
--- the status; where there is no memory for the line of a refusal, that is told instead
-abbrev pub StatusOf : Ending → ℕ → Type 0
-StatusOf Done status = status ≡ 0
-StatusOf SomeNot status = status ≡ 1
-StatusOf (Words fault) status = (status ≡ 2) ⊎ (status ≡ 8)
-StatusOf Store status = status ≡ 3
-StatusOf (Refused why) status = (status ≡ 4) ⊎ (status ≡ 8)
-StatusOf Input status = status ≡ 5
-StatusOf Output status = status ≡ 6
-StatusOf Memory status = status ≡ 8
-StatusOf Limit status = status ≡ 9
+-- an exit status, and what is written on standard error with it
+pub record Told : Type 0 where
+  pub status : ℕ
+  pub line : List ℕ
 
-abbrev pub kind_word : BlockKind → List ℕ
-kind_word kind.Super = codes "super"
-kind_word kind.Driver = codes "driver"
-kind_word kind.Header = codes "header"
-kind_word kind.Message = codes "message"
-kind_word kind.Tree = codes "tree"
-kind_word kind.Snod = codes "snod"
-kind_word kind.Heap = codes "heap"
-kind_word kind.Raw = codes "raw"
+abbrev pub told : Ending → Told
+told Done = record { status = 0; line = [] }
+told SomeNot = record { status = 1; line = [] }
+told (Words fault) = record { status = 2; line = usage_line fault }
+told Store = record { status = 3; line = codes "fault: store\n" }
+told (Refused why) = record { status = 4; line = line_of why }
+told Input = record { status = 5; line = codes "fault: input\n" }
+told Output = record { status = 6; line = codes "fault: output\n" }
+told Memory = record { status = 8; line = codes "fault: memory\n" }
+told ScriptMemory = record { status = 8; line = codes "fault: memory\n" }
+told Limit = record { status = 9; line = codes "limit: script\n" }
 
-abbrev pub what_word : What → List ℕ
-what_word what.UserBlock = codes "user-block"
-what_word what.Sizes = codes "sizes"
-what_word what.Superblock = codes "superblock"
-what_word what.K = codes "k"
-what_word what.Driver = codes "driver"
-what_word what.Root = codes "root"
-what_word what.Header = codes "header"
-what_word what.Heap = codes "heap"
+-- how the program ends where a file isn't read
+abbrev pub stopped : Stop → Ending
+stopped (stop.Refused why) = Refused why
+stopped stop.Failed = Store
+stopped stop.NoMemory = Memory
 
--- the line of a file that is refused
-unfoldable pub refusal_line : Refusal → List ℕ
-refusal_line Exists = codes "refused: exists\n"
-refusal_line Absent = codes "refused: absent\n"
-refusal_line (Malformed at kind) = codes "refused: malformed " ++ decimal at ++ codes " " ++ kind_word kind ++ codes "\n"
-refusal_line (Unsupported what) = codes "refused: unsupported " ++ what_word what ++ codes "\n"
-refusal_line (Truncated actual stored) = codes "refused: truncated " ++ decimal actual ++ codes " " ++ decimal stored ++ codes "\n"
-refusal_line (LinkedTwice at) = codes "refused: linked-twice " ++ decimal at ++ codes "\n"
-refusal_line (Overlap at) = codes "refused: overlap " ++ decimal at ++ codes "\n"
-refusal_line TooDeep = codes "refused: too-deep\n"
-refusal_line TooMany = codes "refused: too-many\n"
+-- the words or the file are refused
+abbrev pub IsRefusal : Ending → Type 0
+IsRefusal Done = ⊥
+IsRefusal SomeNot = ⊥
+IsRefusal (Words fault) = Unit {0}
+IsRefusal Store = ⊥
+IsRefusal (Refused why) = Unit {0}
+IsRefusal Input = ⊥
+IsRefusal Output = ⊥
+IsRefusal Memory = ⊥
+IsRefusal ScriptMemory = ⊥
+IsRefusal Limit = ⊥
 
--- the line of an ending
-abbrev pub line_of : Ending → List ℕ
-line_of Done = []
-line_of SomeNot = []
-line_of (Words fault) = usage_line fault
-line_of Store = codes "fault: store\n"
-line_of (Refused why) = refusal_line why
-line_of Input = codes "fault: input\n"
-line_of Output = codes "fault: output\n"
-line_of Memory = codes "fault: memory\n"
-line_of Limit = codes "limit: script\n"
+-- where the words or the file are refused, or there was no memory before anything was done: `Same` says what stays
+abbrev pub IfNothingDone : Ending → Type 0 → Type 0
+IfNothingDone Done Same = Unit {0}
+IfNothingDone SomeNot Same = Unit {0}
+IfNothingDone (Words fault) Same = Same
+IfNothingDone Store Same = Unit {0}
+IfNothingDone (Refused why) Same = Same
+IfNothingDone Input Same = Unit {0}
+IfNothingDone Output Same = Unit {0}
+IfNothingDone Memory Same = Same
+IfNothingDone ScriptMemory Same = Unit {0}
+IfNothingDone Limit Same = Unit {0}
 
--- what is written on standard error with a status
-abbrev pub told_line : Ending → ℕ → List ℕ
-told_line ending status = if status == 8 then codes "fault: memory\n" else line_of ending
+-- all was done that was asked for, or there is no memory
+abbrev pub EndsDone : Ending → Type 0
+EndsDone Done = Unit {0}
+EndsDone SomeNot = Unit {0}
+EndsDone (Words fault) = ⊥
+EndsDone Store = ⊥
+EndsDone (Refused why) = ⊥
+EndsDone Input = ⊥
+EndsDone Output = ⊥
+EndsDone Memory = Unit {0}
+EndsDone ScriptMemory = Unit {0}
+EndsDone Limit = ⊥
+
+-- the file is refused, or there is no memory
+abbrev pub EndsRefused : Ending → Type 0
+EndsRefused Done = ⊥
+EndsRefused SomeNot = ⊥
+EndsRefused (Words fault) = ⊥
+EndsRefused Store = ⊥
+EndsRefused (Refused why) = Unit {0}
+EndsRefused Input = ⊥
+EndsRefused Output = ⊥
+EndsRefused Memory = Unit {0}
+EndsRefused ScriptMemory = ⊥
+EndsRefused Limit = ⊥

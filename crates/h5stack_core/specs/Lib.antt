@@ -1,6 +1,7 @@
-pub mod Actions
+pub mod Complete
+pub mod Create
 pub mod Endings
 pub mod Files
-pub mod Runs
-pub mod Statuses
+pub mod Script
+pub mod Stores
 pub mod Words

@@ -1,5 +1,6 @@
--- Which words are admitted, and the first fault of those that are not.
-use Rattle.std.specs.Prelude.{◌≡◌, ℕ, Bool, true, false, ◌&&◌, ◌||◌, not, ◌==◌, nat_le, List, [], ◌∷◌, ◌++◌, length, drop, map, slice_index, Option, Some, None, if◌then◌else◌, codes, string_bytes, String}
+-- What the words ask for, and the first fault of those that are not admitted.
+-- Cited by `run` and by the functions that read words.
+use Rattle.std.specs.Prelude.{ℕ, Bool, false, ◌&&◌, ◌||◌, not, ◌==◌, nat_le, List, [], ◌∷◌, ◌++◌, length, drop, map, slice_index, Option, Some, None, Result, Ok, Err, if◌then◌else◌, codes, string_bytes, String}
 use Rattle.std.specs.List.{starts_with, list_all}
 use Rattle.std.specs.Bool.{nat_eq}
 use Rattle.std.specs.Str.{bytes_eq}
@@ -7,6 +8,8 @@ use Rattle.std.specs.Fmt.{decimal}
 use Rattle.std.specs.declared.alloc.Global.{Global}
 use Rattle.h5stack_core.specs.declared.words.WordFault.{WordFault}
 use Rattle.h5stack_core.specs.declared.words.WordFault.TheVariants.{Unknown, NotBuilt, Order, Name, Missing}
+use Rattle.h5stack_core.specs.declared.asked.Asked.{Asked}
+use Rattle.h5stack_core.specs.declared.asked.Asked.TheVariants.{Create, Run}
 
 -- a letter, a digit, `.`, `_` or `-`
 abbrev pub is_file_byte : ℕ → Bool
@@ -81,19 +84,21 @@ abbrev pub asks_run : List (List ℕ) → Bool
 asks_run [] = false
 asks_run (word ∷ rest) = is_run word
 
--- admitted words of a run, and of a creation
-pub record Runs (words : List (List ℕ)) : Type 0 where
-  pub admitted : word_fault words ≡ None
-  pub asked : asks_run words ≡ true
-
-pub record Creates (words : List (List ℕ)) : Type 0 where
-  pub admitted : word_fault words ≡ None
-  pub asked : asks_run words ≡ false
-
 -- the file that admitted words name
 abbrev pub named : List (List ℕ) → List ℕ
 named (action ∷ base ∷ rest) = file_of base
 named words = []
+
+abbrev pub wish : List (List ℕ) → Asked
+wish words = if asks_run words then Run (named words) else Create (named words)
+
+abbrev pub unless_faulty : Option WordFault → Asked → Result Asked WordFault
+unless_faulty None asked = Ok asked
+unless_faulty (Some fault) asked = Err fault
+
+-- what the words ask for, or their first fault
+abbrev pub asked_by : List (List ℕ) → Result Asked WordFault
+asked_by words = unless_faulty (word_fault words) (wish words)
 
 -- the words as lists of bytes
 abbrev pub texts : List (String Global) → List (List ℕ)

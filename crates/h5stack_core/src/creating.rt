@@ -2,11 +2,16 @@ ghost use Rattle.std.specs.Prelude.{◌≡◌, ◌<◌, ℕ, List, [], length, I
 ghost use Rattle.outside.specs.Files.{Files, RestsAt};
 ghost use Rattle.outside.specs.Store.{Goes, SomeRose};
 ghost use Rattle.empty_file.specs.Empty.{empty_file};
-ghost use Rattle.h5stack_core.specs.Actions.{SameFiles};
+ghost use Rattle.outside.specs.Causes.{Rose};
+ghost use Rattle.h5stack_core.specs.Create.{Creates};
+ghost use Rattle.h5stack_core.specs.Endings.{IfNothingDone};
+ghost use Rattle.h5stack_core.specs.Stores.{SameFiles};
 
+use crate::ending::{Ending, Performed};
 use empty_file::{EMPTY_LEN, write_empty_file};
-use h5_base::Name;
-use outside::{Failed, FileId, FileStop, Store};
+use h5_base::{Name, Refusal};
+use outside::{Failed, FileId, FileStop, Sink, Store};
+use printing::print;
 
 /// Why no file was created.
 #[derive(Clone, Copy, Debug, PartialEq, Eq)]
@@ -63,6 +68,7 @@ pub fn create<S: Store>(store: &mut S, name: &Name) -> Result<(), CreateStop>
         → OnOk result (RestsAt name.now empty_file (S.leaves store.new)) }
     ensures was_empty { IsTrue S.tells_files → OnOk result ((S.view store.old).files name.now ≡ []) }
     ensures exists { IsTrue S.tells_files → IsErrOf result CreateStop.Exists → 0 < length ((S.view store.old).files name.now) }
+    ensures kept { IsTrue S.tells_files → 0 < length ((S.view store.old).files name.now) → (S.view store.new).files name.now ≡ (S.view store.old).files name.now }
     ensures exists_same { IsErrOf result CreateStop.Exists → SameFiles S.tells_files (S.view store.old) (S.view store.new) }
     ensures memory_same { IsErrOf result CreateStop.NoMemory → SameFiles S.tells_files (S.view store.old) (S.view store.new) }
     ensures failed { IsErrOf result CreateStop.Failed → SomeRose (S.view store.old) (S.view store.new) }
@@ -73,4 +79,31 @@ pub fn create<S: Store>(store: &mut S, name: &Name) -> Result<(), CreateStop>
         Ok(()) => Ok(()),
         Err(Failed) => Err(CreateStop::Failed),
     }
+}
+
+/// Creates a file, and says so.
+pub fn create_file<S: Store, O: Sink>(file: &Name, store: S, out: &mut O) -> Performed<S>
+    ensures goes { Goes S.tells_files (λ q. q ≡ file.now) (S.view store) (S.view result.store) }
+    ensures create { Creates (record { files = S.tells_files; images = S.tells_images }) file.now
+        (record { view = S.view store; leaves = S.leaves store; past = S.past store })
+        (record { view = S.view result.store; leaves = S.leaves result.store; past = S.past result.store })
+        O.tells (O.written out.old) (O.written out.new) result.ending }
+    ensures same { IfNothingDone result.ending (SameFiles S.tells_files (S.view store) (S.view result.store)) }
+    ensures silent { IfNothingDone result.ending (out.new ≡ out.old) }
+    ensures store_fault { result.ending ≡ Ending.Store → SomeRose (S.view store) (S.view result.store) }
+    ensures output_fault { result.ending ≡ Ending.Output → Rose (O.faults out.old) (O.faults out.new) }
+{
+    let mut store = store;
+    let ending = match create(&mut store, file) {
+        Ok(()) => match print(out, b"created\n") {
+            Ok(()) => Ending::Done,
+            Err(Failed) => Ending::Output,
+        },
+        Err(CreateStop::Exists) => Ending::Refused {
+            why: Refusal::Exists,
+        },
+        Err(CreateStop::Failed) => Ending::Store,
+        Err(CreateStop::NoMemory) => Ending::Memory,
+    };
+    Performed { store, ending }
 }

@@ -1,28 +1,8 @@
-use crate::words::WordFault;
-use h5_base::{BlockKind, What};
+ghost use Rattle.std.specs.Prelude.{◌≡◌};
+ghost use Rattle.h5stack_core.specs.Endings.{told, stopped};
 
-/// Why a file is refused. Addresses and lengths are in bytes.
-#[derive(Clone, Copy, Debug, PartialEq, Eq)]
-pub enum Refusal {
-    /// The file to be created isn't empty.
-    Exists,
-    /// The file to be opened is empty.
-    Absent,
-    /// The bytes at an address don't spell a block of this kind, or the block leaves its region's end.
-    Malformed { at: u64, kind: BlockKind },
-    /// The file asks for something that isn't supported.
-    Unsupported { what: What },
-    /// The superblock stores a greater end than the actual one.
-    Truncated { actual: u64, stored: u64 },
-    /// A block that begins at an address was reached before.
-    LinkedTwice { at: u64 },
-    /// An address lies in two blocks.
-    Overlap { at: u64 },
-    /// An object lies more than 32 links below the root.
-    TooDeep,
-    /// More than 65,536 objects or 1,048,576 blocks.
-    TooMany,
-}
+use crate::words::WordFault;
+use h5_base::{Refusal, Stop};
 
 /// How the program ended.
 #[derive(Clone, Copy, Debug, PartialEq, Eq)]
@@ -41,8 +21,47 @@ pub enum Ending {
     Input,
     /// A call of the output failed.
     Output,
-    /// There is no memory left.
+    /// There was no memory before anything was done.
     Memory,
+    /// There was no memory for a line of a script; those before it were done, and the file was closed.
+    ScriptMemory,
     /// 4,294,967,296 bytes of the script were taken before its end was.
     Limit,
+}
+
+impl Ending {
+    /// The exit status.
+    pub fn status(self) -> u8
+        ensures { result ≡ (told self).status }
+    {
+        match self {
+            Ending::Done => 0,
+            Ending::SomeNot => 1,
+            Ending::Words { .. } => 2,
+            Ending::Store => 3,
+            Ending::Refused { .. } => 4,
+            Ending::Input => 5,
+            Ending::Output => 6,
+            Ending::Memory | Ending::ScriptMemory => 8,
+            Ending::Limit => 9,
+        }
+    }
+}
+
+/// How the program ends where a file isn't read.
+pub fn stopped(stop: Stop) -> Ending
+    ensures { result ≡ stopped stop }
+{
+    match stop {
+        Stop::Refused { why } => Ending::Refused { why },
+        Stop::Failed => Ending::Store,
+        Stop::NoMemory => Ending::Memory,
+    }
+}
+
+/// The store in which an action was done, and how that ended.
+#[derive(Drop)]
+pub struct Performed<S> {
+    pub store: S,
+    pub ending: Ending,
 }

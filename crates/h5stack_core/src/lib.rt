@@ -1,6 +1,7 @@
 //! What the program does, over any store, source, sinks and clock.
 #![tactic(auto)]
 
+mod asked;
 mod creating;
 mod ending;
 mod files;
@@ -9,4 +10,6 @@ mod running;
 mod telling;
 mod words;
 
+pub use ending::Ending;
 pub use running::{Finished, run};
+pub use words::WordFault;

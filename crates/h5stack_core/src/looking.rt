@@ -5,11 +5,13 @@ ghost use Rattle.h5_base.specs.declared.extent.MemClass.TheVariants as class;
 ghost use Rattle.object_model.specs.Step.{Plain};
 ghost use Rattle.object_tree.specs.Sound.{IsSoundTree};
 ghost use Rattle.tree_answers.specs.Shown.{IsTreeOf};
-ghost use Rattle.h5stack_core.specs.Actions.{HasReason, fault_in};
-ghost use Rattle.h5stack_core.specs.Runs.{HoldsWithin, IsRefusedTree, RunTo, Answers, IfRefused, IfClosed, IsOfScript, unopened};
+ghost use Rattle.h5stack_core.specs.Endings.{IfNothingDone};
+ghost use Rattle.h5stack_core.specs.declared.words.WordFault.{WordFault};
+ghost use Rattle.h5stack_core.specs.Script.{HoldsWithin, IsRefusedTree, Answers, TreeAnswers, IfClosed, IsOfScript, unopened};
 
-use crate::ending::{Ending, Refusal};
+use crate::ending::Ending;
 use block_space::Blocks;
+use h5_base::Refusal;
 use object_tree::{ObjectTree, TreeStop, open_tree};
 use outside::{Sink, Source, Space};
 use script_run::{Ended, ScriptStop, answer_script};
@@ -58,8 +60,16 @@ fn answer_lines<I: Source, O: Sink>(
     out: &mut O,
 ) -> Ending
     requires { IsSoundTree tree.now }
-    ensures answers { (t : Plain) → IsTreeOf tree.now t → Answers I.tells O.tells t (I.left input.old) (I.left input.new) (O.written out.old) (O.written out.new) result }
-    ensures reason { HasReason ⊥ (I.faults input.old) (I.faults input.new) (O.faults out.old) (O.faults out.new) result }
+    ensures answers { (t : Plain) → IsTreeOf tree.now t → TreeAnswers t (record {
+      reads = I.tells;
+      prints = O.tells;
+      script = I.left input.old;
+      left = I.left input.new;
+      old = O.written out.old;
+      new = O.written out.new;
+    }) result }
+    ensures input_fault { result ≡ Ending.Input → Rose (I.faults input.old) (I.faults input.new) }
+    ensures output_fault { result ≡ Ending.Output → Rose (O.faults out.old) (O.faults out.new) }
     ensures input { I.faults input.old ≤ I.faults input.new }
     ensures output { O.faults out.old ≤ O.faults out.new }
     ensures run { IsOfScript result }
@@ -70,7 +80,7 @@ fn answer_lines<I: Source, O: Sink>(
         Err(ScriptStop::Input) => Ending::Input,
         Err(ScriptStop::Output) => Ending::Output,
         Err(ScriptStop::Limit) => Ending::Limit,
-        Err(ScriptStop::Memory) => Ending::Memory,
+        Err(ScriptStop::Memory) => Ending::ScriptMemory,
     }
 }
 
@@ -103,17 +113,25 @@ pub fn look<V: Space, I: Source, O: Sink>(
     requires stands { V.Stands space }
     requires first { ((V.view space).regions class.Super).start ≡ 0 }
     requires writable { IsTrue (V.view space).writable }
-    ensures run { IsTrue V.tells → RunTo (HoldsWithin (V.view space).array (bounds_of (V.view space) None)) (IsRefusedTree (V.view space).array (bounds_of (V.view space) None))
-        I.tells O.tells (I.left input.old) (I.left input.new) (O.written out.old) (O.written out.new) result.ending }
-    ensures unread { IfRefused result.ending (input.new ≡ input.old) }
-    ensures silent { IfRefused result.ending (out.new ≡ out.old) }
-    ensures reason { HasReason (Rose (V.faults space) (V.faults result.space) ⊎ ((before : ℕ) × Rose before (V.copy_faults result.space)))
-        (I.faults input.old) (I.faults input.new) (O.faults out.old) (O.faults out.new) result.ending }
+    ensures answers { IsTrue V.tells → Answers (HoldsWithin (V.view space).array (bounds_of (V.view space) None))
+        (IsRefusedTree (V.view space).array (bounds_of (V.view space) None)) (record {
+          reads = I.tells;
+          prints = O.tells;
+          script = I.left input.old;
+          left = I.left input.new;
+          old = O.written out.old;
+          new = O.written out.new;
+        }) result.ending }
+    ensures unread { IfNothingDone result.ending (input.new ≡ input.old) }
+    ensures silent { IfNothingDone result.ending (out.new ≡ out.old) }
+    ensures store_fault { result.ending ≡ Ending.Store → Rose (V.faults space) (V.faults result.space) ⊎ ((before : ℕ) × Rose before (V.copy_faults result.space)) }
+    ensures input_fault { result.ending ≡ Ending.Input → Rose (I.faults input.old) (I.faults input.new) }
+    ensures output_fault { result.ending ≡ Ending.Output → Rose (O.faults out.old) (O.faults out.new) }
     ensures goes { V.GoesOn space result.space }
     ensures array { IsTrue V.tells → (V.view result.space).array ≡ (V.view space).array }
     ensures ends { (V.view result.space).ends ≡ (V.view space).ends }
     ensures rests { IfClosed result.ending (V.Rests result.space) }
-    ensures fault { fault_in result.ending ≡ None }
+    ensures words { (fault : WordFault) → result.ending ≡ Ending.Words fault → ⊥ }
 {
     let mut blocks = Blocks::new(alloc, space);
     match open_tree(alloc, &mut blocks) {

@@ -1,11 +1,7 @@
-use Rattle.std.proofs.Common.{◌≡◌, IsTrue, sym, ◌∙◌, subst}
+use Rattle.std.proofs.Common.{rules, ◌≡◌, IsTrue, sym, ◌∙◌, subst}
 use Rattle.plain_space.specs.Plain.{store_of, id_of}
 use Rattle.h5stack_core.proofs.FileLemmas.{file_run, unmounted_run, file_goes, same_bytes, all_same, closed_on, rests_named}
 use Rattle.h5stack_core.proofs.files.run_file.Goals as goal
-
-pub returns-in-Ok-clause-run : goal.returns-in-Ok-clause-run
-returns-in-Ok-clause-run g c = λ told.
-    file_run _ _ g.S.Store.tells_files (g.S.Store.view (store_of c.in-Ok.space)) (id_of c.in-Ok.space) _ _ _ _ _ _ _ _ c.in-Ok.ensures.view (c.in-Ok.ensures.array told) (c.in-Ok.ensures.end told) (c.in-Ok.ensures.admitted told) (c.look-looked.ensures.run told)
 
 pub returns-in-Ok-clause-goes : goal.returns-in-Ok-clause-goes
 returns-in-Ok-clause-goes g c =
@@ -19,21 +15,28 @@ bytes_same g c told =
     c.in-Ok.ensures.goes (c.into_store.ensures.touched c.in-Ok.space c.look-looked.ensures.goes).names c.in-Ok.ensures.name
     (c.into_store.ensures.same_file c.in-Ok.space told c.look-looked.ensures.goes (c.look-looked.ensures.array told) c.look-looked.ensures.ends)
 
-pub returns-in-Ok-clause-same : goal.returns-in-Ok-clause-same
-returns-in-Ok-clause-same g c =
-    all_same g.S.Store.tells_files c.args.file.now (g.S.Store.view c.args.store) (g.S.Store.view c.into_store.result) (returns-in-Ok-clause-goes g c) (bytes_same g c)
-
-pub returns-in-Ok-clause-rests : goal.returns-in-Ok-clause-rests
-returns-in-Ok-clause-rests g c = λ told images honest.
-    let touched = c.into_store.ensures.touched c.in-Ok.space c.look-looked.ensures.goes in
-    let id = c.into_store.ensures.same_id c.in-Ok.space c.look-looked.ensures.goes in
-    let goes = returns-in-Ok-clause-goes g c in
-    closed_on _ _ _
-    (λ rests. rests_named c.args.file.now ((g.S.Store.view c.args.store).files c.args.file.now) (id_of c.look-looked.result.space) (g.S.Store.view c.into_store.result) (g.S.Store.leaves c.into_store.result)
-    ((λ k. (g.S.Store.view c.into_store.result).names (id k)) ∙ (λ k. touched.names k (id_of c.in-Ok.space)) ∙ c.in-Ok.ensures.name)
-    (bytes_same g c told)
-    (c.into_store.ensures.rests rests told images (subst IsTrue (sym goes.honest) honest)))
-    c.look-looked.ensures.rests
+pub returns-in-Ok-clause-run : goal.returns-in-Ok-clause-run
+returns-in-Ok-clause-run g c = record {
+  same = all_same g.S.Store.tells_files c.args.file.now (g.S.Store.view c.args.store) (g.S.Store.view c.into_store.result) (returns-in-Ok-clause-goes g c) (bytes_same g c);
+  images = search rules;
+  lasts = λ told images honest.
+      let touched = c.into_store.ensures.touched c.in-Ok.space c.look-looked.ensures.goes in
+      let id = c.into_store.ensures.same_id c.in-Ok.space c.look-looked.ensures.goes in
+      let goes = returns-in-Ok-clause-goes g c in
+      closed_on _ _ _
+      (λ rests. rests_named c.args.file.now ((g.S.Store.view c.args.store).files c.args.file.now) (id_of c.look-looked.result.space) (g.S.Store.view c.into_store.result) (g.S.Store.leaves c.into_store.result)
+      ((λ k. (g.S.Store.view c.into_store.result).names (id k)) ∙ (λ k. touched.names k (id_of c.in-Ok.space)) ∙ c.in-Ok.ensures.name)
+      (bytes_same g c told)
+      (c.into_store.ensures.rests rests told images (subst IsTrue (sym goes.honest) honest)))
+      c.look-looked.ensures.rests;
+  answers = λ told.
+      file_run _ _ g.S.Store.tells_files (g.S.Store.view (store_of c.in-Ok.space)) (id_of c.in-Ok.space) _ _ _ c.in-Ok.ensures.view (c.in-Ok.ensures.array told) (c.in-Ok.ensures.end told) (c.in-Ok.ensures.admitted told) (c.look-looked.ensures.answers told);
+}
 
 pub returns-in-Err-clause-run : goal.returns-in-Err-clause-run
-returns-in-Err-clause-run g c = λ told. rw c.unmounted.ensures (unmounted_run _ _ _ _ _ _ (c.in-Err.ensures.refused told))
+returns-in-Err-clause-run g c = record {
+  same = search rules;
+  images = search rules;
+  lasts = search rules;
+  answers = λ told. rw c.stopped.ensures (unmounted_run _ _ _ _ _ _ (c.in-Err.ensures.refused told));
+}

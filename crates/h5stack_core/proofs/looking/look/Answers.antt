@@ -1,19 +1,22 @@
 use Rattle.std.proofs.Common.{sym, ◌∙◌, inl, inr, ⊎_elim}
-use Rattle.h5stack_core.proofs.RunLemmas.{opened_run, closed_run, closed_reason, closing_fault, rose_from}
+use Rattle.h5stack_core.proofs.RunLemmas.{opened_run, closed_run, closed_done, closing_fault, rose_from}
 use Rattle.h5stack_core.proofs.looking.look.Goals as goal
 
-pub returns-in-Ok-clause-run : goal.returns-in-Ok-clause-run
-returns-in-Ok-clause-run g c = λ told.
-    closed_run _ _ _ _ _ _ _ _ _ _ c.answer_lines-ending.ensures.run c.close-ending.ensures.ending
-    (opened_run _ _ _ _ _ _ _ _ _ _ _ (rw c.new-blocks.ensures.space at (c.in-Ok.ensures.opened told)) c.answer_lines-ending.ensures.answers)
+pub returns-in-Ok-clause-answers : goal.returns-in-Ok-clause-answers
+returns-in-Ok-clause-answers g c = λ told.
+    closed_run _ _ _ _ _ c.answer_lines-ending.ensures.run c.close-ending.ensures.ending
+    (opened_run _ _ _ _ _ _ (rw c.new-blocks.ensures.space at (c.in-Ok.ensures.opened told)) c.answer_lines-ending.ensures.answers)
 
-pub returns-in-Ok-clause-reason : goal.returns-in-Ok-clause-reason
-returns-in-Ok-clause-reason g c =
+pub returns-in-Ok-clause-unread : goal.returns-in-Ok-clause-unread
+returns-in-Ok-clause-unread g c = closed_done _ _ _ c.answer_lines-ending.ensures.run c.close-ending.ensures.ending
+
+pub returns-in-Ok-clause-silent : goal.returns-in-Ok-clause-silent
+returns-in-Ok-clause-silent g c = closed_done _ _ _ c.answer_lines-ending.ensures.run c.close-ending.ensures.ending
+
+pub returns-in-Ok-clause-store_fault : goal.returns-in-Ok-clause-store_fault
+returns-in-Ok-clause-store_fault g c = λ is.
     let later = rw (c.new-blocks.ensures.space, ← c.finish-space.ensures) at c.in-Ok.ensures.later in
-    closed_reason _ _ _ _ _ _ _ _ c.answer_lines-ending.ensures.run c.close-ending.ensures.ending
-    (closing_fault _ _ _ _ c.answer_lines-ending.ensures.run c.close-ending.ensures.fault)
-    (⊎_elim (λ r. inl (rose_from _ _ _ later r)) (λ r. inr (_, r)))
-    c.answer_lines-ending.ensures.reason
+    ⊎_elim (λ r. inl (rose_from _ _ _ later r)) (λ r. inr (_, r)) (closing_fault _ _ _ _ c.answer_lines-ending.ensures.run c.close-ending.ensures.fault is)
 
 pub returns-in-Ok-clause-goes : goal.returns-in-Ok-clause-goes
 returns-in-Ok-clause-goes g c =
