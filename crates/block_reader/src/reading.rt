@@ -1,4 +1,5 @@
-ghost use Rattle.std.specs.Prelude.{◌≡◌, ◌+◌, ◌^◌, ◌<◌, ◌≤◌, ◌++◌, ◌∷◌, [], ℕ, List, Option, None, IsTrue, IfOk, IfErr, IfSome, OnOk, OnErr, IsErrOf, length};
+ghost use Rattle.std.specs.Prelude.{◌≡◌, ◌+◌, ◌^◌, ◌<◌, ◌≤◌, ◌++◌, ◌∷◌, [], ℕ, List, Option, None, IsTrue, IfOk, IfErr};
+ghost use Rattle.std.specs.Prelude.{IfSome, OnOk, OnErr, IsErrOf, length};
 ghost use Rattle.outside.specs.Array.{bytes_of};
 ghost use Rattle.outside.specs.Blocks.{Block, placed};
 ghost use Rattle.outside.specs.Causes.{Rose};
@@ -21,10 +22,12 @@ pub fn adopt<V: Space>(
     kind: BlockKind,
 ) -> Result<(), TreeStop>
     requires { 0 < len }
-    ensures found { OnOk result ((met : List Block) → Keeps V.view blocks.old met → Keeps V.view blocks.new (met ++ record { start = start; len = len } ∷ [])) }
+    ensures found { OnOk result ((met : List Block) → Keeps V.view blocks.old met
+        → Keeps V.view blocks.new (met ++ record { start = start; len = len } ∷ [])) }
     ensures fits { OnOk result ((met : List Block) → Keeps V.view blocks.old met → start + len < 2 ^ 64) }
     ensures refused { IfErr result (λ stop. (met : List Block) (own : Option (List ℕ)) → Keeps V.view blocks.old met
-        → IfSome (refusal_of stop) (IsBlockRefused (bounds_of (V.view (space_of blocks.old)) own) met (record { start = start; len = len }) kind)) }
+        → IfSome (refusal_of stop) (IsBlockRefused (bounds_of (V.view (space_of blocks.old)) own) met
+        (record { start = start; len = len }) kind)) }
     ensures no_fault { IsErrOf result TreeStop.Failed → ⊥ }
     ensures space { space_of blocks.new ≡ space_of blocks.old }
 {
@@ -41,10 +44,12 @@ pub fn adopt_placed<V: Space>(
     len: u64,
     kind: BlockKind,
 ) -> Result<(), TreeStop>
-    ensures found { OnOk result ((met : List Block) → Keeps V.view blocks.old met → Keeps V.view blocks.new (met ++ placed start len)) }
+    ensures found { OnOk result ((met : List Block) → Keeps V.view blocks.old met
+        → Keeps V.view blocks.new (met ++ placed start len)) }
     ensures fits { OnOk result (0 < len → (met : List Block) → Keeps V.view blocks.old met → start + len < 2 ^ 64) }
     ensures refused { IfErr result (λ stop. (met : List Block) (own : Option (List ℕ)) → Keeps V.view blocks.old met
-        → IfSome (refusal_of stop) (IsPlacedRefused (bounds_of (V.view (space_of blocks.old)) own) met start len kind)) }
+        → IfSome (refusal_of stop) (IsPlacedRefused
+        (bounds_of (V.view (space_of blocks.old)) own) met start len kind)) }
     ensures no_fault { IsErrOf result TreeStop.Failed → ⊥ }
     ensures space { space_of blocks.new ≡ space_of blocks.old }
 {
@@ -70,7 +75,8 @@ pub fn read<V: Space>(
     ensures alike { V.Alike (space_of blocks.old) (space_of blocks.new) }
     ensures stands { (IsErrOf result TreeStop.Failed → ⊥) → V.Stands (space_of blocks.new) }
     ensures later { V.faults (space_of blocks.old) ≤ V.faults (space_of blocks.new) }
-    ensures cause { IsErrOf result TreeStop.Failed → Rose (V.faults (space_of blocks.old)) (V.faults (space_of blocks.new)) }
+    ensures cause { IsErrOf result TreeStop.Failed
+        → Rose (V.faults (space_of blocks.old)) (V.faults (space_of blocks.new)) }
 {
     let mut bytes = vec![in alloc; 0; len]?;
     match blocks.read(at, &mut bytes) {
@@ -92,13 +98,16 @@ pub fn take<V: Space>(
     requires some { 0 < len }
     ensures bytes { IsTrue V.tells → IfOk result (λ v. v.items ≡ bytes_of (V.view (space_of blocks.old)).array at len) }
     ensures len { IfOk result (λ v. length v.items ≡ len) }
-    ensures found { OnOk result ((met : List Block) → Keeps V.view blocks.old met → Keeps V.view blocks.new (met ++ record { start = at; len = len } ∷ [])) }
+    ensures found { OnOk result ((met : List Block) → Keeps V.view blocks.old met
+        → Keeps V.view blocks.new (met ++ record { start = at; len = len } ∷ [])) }
     ensures refused { IfErr result (λ stop. (met : List Block) (own : Option (List ℕ)) → Keeps V.view blocks.old met
-        → IfSome (refusal_of stop) (IsBlockRefused (bounds_of (V.view (space_of blocks.old)) own) met (record { start = at; len = len }) kind)) }
+        → IfSome (refusal_of stop) (IsBlockRefused (bounds_of (V.view (space_of blocks.old)) own) met
+        (record { start = at; len = len }) kind)) }
     ensures alike { V.Alike (space_of blocks.old) (space_of blocks.new) }
     ensures stands { (IsErrOf result TreeStop.Failed → ⊥) → V.Stands (space_of blocks.new) }
     ensures later { V.faults (space_of blocks.old) ≤ V.faults (space_of blocks.new) }
-    ensures cause { IsErrOf result TreeStop.Failed → Rose (V.faults (space_of blocks.old)) (V.faults (space_of blocks.new)) }
+    ensures cause { IsErrOf result TreeStop.Failed
+        → Rose (V.faults (space_of blocks.old)) (V.faults (space_of blocks.new)) }
 {
     match adopt(blocks, at, len as u64, kind) {
         Ok(()) => read(alloc, blocks, at, len),

@@ -1,4 +1,5 @@
-ghost use Rattle.std.specs.Prelude.{◌≡◌, ◌+◌, ◌^◌, ◌<◌, ◌≤◌, ◌++◌, ℕ, [], ◌∷◌, List, Option, length, IsTrue, IfErr, IfSome, OnOk, OnErr, IsErrOf};
+ghost use Rattle.std.specs.Prelude.{◌≡◌, ◌+◌, ◌^◌, ◌<◌, ◌≤◌, ◌++◌, ℕ, [], ◌∷◌, List, Option, length, IsTrue, IfErr};
+ghost use Rattle.std.specs.Prelude.{IfSome, OnOk, OnErr, IsErrOf};
 ghost use Rattle.outside.specs.Array.{bytes_of};
 ghost use Rattle.outside.specs.Blocks.{Block, IsFault};
 ghost use Rattle.outside.specs.Causes.{HasCause};
@@ -57,9 +58,11 @@ impl<V: Space> Blocks<V> {
     // The first reason for which a block of at least one byte isn't taken in, want of memory aside.
     fn judge(&self, start: u64, len: u64) -> Result<(), AdoptStop>
         requires { 0 < len }
-        ensures free { OnOk result ((met : List Block) → Keeps V.view self.now met → MayJoin V.view self.now met (record { start = start; len = len })) }
+        ensures free { OnOk result ((met : List Block) → Keeps V.view self.now met
+            → MayJoin V.view self.now met (record { start = start; len = len })) }
         ensures why { IfErr result (λ stop. (met : List Block) (own : Option (List ℕ)) → Keeps V.view self.now met
-            → IfSome (fault_of stop) (IsFault (bounds_of (V.view (space_of self.now)) own) met (record { start = start; len = len }))) }
+            → IfSome (fault_of stop) (IsFault (bounds_of (V.view (space_of self.now)) own) met
+            (record { start = start; len = len }))) }
         ensures at { (at : ℕ) → IsErrOf result (AdoptStop.Outside at) → at ≡ start }
         ensures memory { ¬ IsErrOf result AdoptStop.NoMemory }
     {
@@ -83,12 +86,15 @@ impl<V: Space> Blocks<V> {
     /// the first of `TooMany`, `LinkedTwice`, `Overlap`, `Outside` and `NoMemory` that applies.
     pub fn adopt(&mut self, start: u64, len: u64) -> Result<(), AdoptStop>
         requires { 0 < len }
-        ensures ok { OnOk result ((met : List Block) → Keeps V.view self.old met → Keeps V.view self.new (met ++ record { start = start; len = len } ∷ [])) }
+        ensures ok { OnOk result ((met : List Block) → Keeps V.view self.old met
+            → Keeps V.view self.new (met ++ record { start = start; len = len } ∷ [])) }
         ensures same { OnErr result ((met : List Block) → Keeps V.view self.old met → Keeps V.view self.new met) }
         ensures why { IfErr result (λ stop. (met : List Block) (own : Option (List ℕ)) → Keeps V.view self.old met
-            → IfSome (fault_of stop) (IsFault (bounds_of (V.view (space_of self.old)) own) met (record { start = start; len = len }))) }
+            → IfSome (fault_of stop) (IsFault (bounds_of (V.view (space_of self.old)) own) met
+            (record { start = start; len = len }))) }
         ensures at { (at : ℕ) → IsErrOf result (AdoptStop.Outside at) → at ≡ start }
-        ensures memory { IsErrOf result AdoptStop.NoMemory → (met : List Block) → Keeps V.view self.old met → MayJoin V.view self.old met (record { start = start; len = len }) }
+        ensures memory { IsErrOf result AdoptStop.NoMemory → (met : List Block) → Keeps V.view self.old met
+            → MayJoin V.view self.old met (record { start = start; len = len }) }
         ensures space { space_of self.new ≡ space_of self.old }
     {
         self.judge(start, len)?;
@@ -102,7 +108,8 @@ impl<V: Space> Blocks<V> {
     pub fn read(&mut self, at: u64, out: &mut [u8]) -> Result<(), Failed>
         requires stands { V.Stands (space_of self.old) }
         requires fits { at + length out.old ≤ 2 ^ 64 }
-        ensures bytes { IsTrue V.tells → OnOk result (out.new ≡ bytes_of (V.view (space_of self.old)).array at (length out.old)) }
+        ensures bytes { IsTrue V.tells → OnOk result
+            (out.new ≡ bytes_of (V.view (space_of self.old)).array at (length out.old)) }
         ensures kept { (met : List Block) → Keeps V.view self.old met → Keeps V.view self.new met }
         ensures alike { V.Alike (space_of self.old) (space_of self.new) }
         ensures stands { OnOk result (V.Stands (space_of self.new)) }
@@ -110,9 +117,13 @@ impl<V: Space> Blocks<V> {
         ensures copy { V.copy_faults (space_of self.old) ≤ V.copy_faults (space_of self.new) }
         ensures rests { OnOk result (V.Rests (space_of self.old) → V.Rests (space_of self.new)) }
         ensures moment { V.moment (space_of self.old) ≤ V.moment (space_of self.new) }
-        ensures steady { IsTrue V.tells_stops → V.Steady (space_of self.old) → OnOk result (V.Steady (space_of self.new)) }
-        ensures leaves { IsTrue V.tells_stops → V.Steady (space_of self.old) → LeaveOnly (V.moment (space_of self.old)) (λ list. list ≡ revisions_of (V.view (space_of self.old))) (V.Leaves (space_of self.new)) }
-        ensures past { IsTrue V.tells_stops → Continue (V.moment (space_of self.old)) (V.Leaves (space_of self.old)) (V.Leaves (space_of self.new)) }
+        ensures steady { IsTrue V.tells_stops → V.Steady (space_of self.old)
+            → OnOk result (V.Steady (space_of self.new)) }
+        ensures leaves { IsTrue V.tells_stops → V.Steady (space_of self.old)
+            → LeaveOnly (V.moment (space_of self.old)) (λ list. list ≡ revisions_of (V.view (space_of self.old)))
+            (V.Leaves (space_of self.new)) }
+        ensures past { IsTrue V.tells_stops → Continue (V.moment (space_of self.old)) (V.Leaves (space_of self.old))
+            (V.Leaves (space_of self.new)) }
     {
         self.space.read(at, out)
     }

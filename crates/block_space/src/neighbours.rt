@@ -37,7 +37,9 @@ fn runs_over(catalogue: &BTreeMap<u64, u64>, at: u64) -> bool
 /// The first address that a block of at least one byte shares with one of the blocks.
 pub fn shared_address(catalogue: &BTreeMap<u64, u64>, start: u64, len: u64) -> Option<u64>
     requires { 0 < len }
-    ensures { (met : List Block) → Lists catalogue.now met → MatchOption result (IsApart (record { start = start; len = len }) met) (IsOverlap met (record { start = start; len = len })) }
+    ensures { (met : List Block) → Lists catalogue.now met
+        → MatchOption result (IsApart (record { start = start; len = len }) met)
+        (IsOverlap met (record { start = start; len = len })) }
 {
     if runs_over(catalogue, start) {
         return Some(start);

@@ -25,7 +25,8 @@ fn lies_in<V: Space>(space: &V, class: MemClass, start: u64, len: u64) -> bool
 
 /// Whether `len` bytes from `start` on lie whole in one region, below its end.
 pub fn lies_inside<V: Space>(space: &V, start: u64, len: u64) -> bool
-    ensures { (own : Option (List ℕ)) → IsTrue result ↔ IsInside (bounds_of (V.view space.now) own) (record { start = start; len = len }) }
+    ensures { (own : Option (List ℕ)) → IsTrue result ↔ IsInside (bounds_of (V.view space.now) own)
+        (record { start = start; len = len }) }
 {
     CLASSES
         .iter()

@@ -7,8 +7,8 @@ use outside::{Clock, FileId, Sink, Source, Store};
 use std::alloc::Global;
 use std::test;
 
-// Makes a call through the trait: `l`, `r` and `s` for length, read and sync, `t` for another length, and `w` for a write
-// of a piece.
+// Makes a call through the trait: `l`, `r` and `s` for length, read and sync, `t` for another length, and `w` for a
+// write of a piece.
 fn is_done<S: Store>(store: &mut S, id: FileId, kind: u8, number: u8, piece: &[u8]) -> bool
     requires { 0 < length ((S.view store.old).names id.n) }
 {

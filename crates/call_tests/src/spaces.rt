@@ -30,7 +30,8 @@ fn prepare<V: Space>(alloc: Global, space: &mut V, at: u64, len: u64) -> Result<
     requires fits { at + len < 2 ^ 64 }
     ensures stands { V.Stands space.new }
     ensures covered { OnOk result (AreCovered (V.view space.new).prepared at len) }
-    ensures others { OnOk result (V.view space.new ≡ record (V.view space.old) { prepared = (V.view space.new).prepared }) }
+    ensures others { OnOk result (V.view space.new ≡ record
+        (V.view space.old) { prepared = (V.view space.new).prepared }) }
 {
     let mut ranges = Vec::new(alloc);
     ranges.push(Extent { start: at, len })?;

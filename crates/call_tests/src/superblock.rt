@@ -1,8 +1,8 @@
 // The superblock, written and read again.
 use super_codec::{RootEntry, Superblock, read_super, write_super};
 
-// That of a file of 800 bytes with an empty root group: from byte 16 on both K, the addresses of base, free space, end and
-// driver information, and the root's entry.
+// That of a file of 800 bytes with an empty root group: from byte 16 on both K, the addresses of base, free space, end
+// and driver information, and the root's entry.
 const BYTES: [u8; 96] =
     *b"\x89HDF\r\n\x1A\n\0\0\0\0\0\x08\x08\0\x04\0\x10\0\0\0\0\0\0\0\0\0\0\0\0\0\
     \xFF\xFF\xFF\xFF\xFF\xFF\xFF\xFF\x20\x03\0\0\0\0\0\0\xFF\xFF\xFF\xFF\xFF\xFF\xFF\xFF\0\0\0\0\0\0\0\0\

@@ -42,8 +42,8 @@ fn node_at(node: u32) -> u64 {
     NODES_AT + NODE_LEN * u64::from(node)
 }
 
-// Superblock of version 0 with a leaf K of 1024 and an internal K of 16, the root's header, and its B-tree node up to the
-// first child.
+// Superblock of version 0 with a leaf K of 1024 and an internal K of 16, the root's header, and its B-tree node up to
+// the first child.
 fn add_root(alloc: Global, end: u64, nodes: u32, file: &mut Vec<u8>) -> Result<(), Stop> {
     let text = format!(in alloc;
         "89 'HDF' 0D0A1A0A 00*5 08 08 00 u16:1024 u16:16 00*12 FF*8 u64:{end} FF*8 00*8 u64:96 00*24

@@ -1,6 +1,7 @@
 -- Which bytes are the dataspace of a dataset, by the HDF5 File Format Specification 3.0, IV.A.2.b ("Dataspace
 -- Message", version 1). Cited by `read_shape` and `write_shape`, and by what reads and writes object headers.
-use Rattle.std.specs.Prelude.{◌≡◌, ℕ, ◌+◌, ◌*◌, ◌/◌, ◌%◌, ◌^◌, ◌≤◌, ◌<◌, ◌==◌, if◌then◌else◌, Option, None, Some, List, [], ◌∷◌, ◌++◌, length, slice_index, All}
+use Rattle.std.specs.Prelude.{◌≡◌, ℕ, ◌+◌, ◌*◌, ◌/◌, ◌%◌, ◌^◌, ◌≤◌, ◌<◌, ◌==◌, if◌then◌else◌, Option, None, Some, List}
+use Rattle.std.specs.Prelude.{[], ◌∷◌, ◌++◌, length, slice_index, All}
 use Rattle.h5_base.specs.Fields.{u64s_at, u64s_bytes}
 use Rattle.dtype.specs.declared.types.Shape.{Shape}
 

@@ -1,6 +1,7 @@
 -- Which bytes are the datatype of an integer or a fixed string, by the HDF5 File Format Specification 3.0, IV.A.2.d
 -- ("Datatype Message"). Cited by `read_type` and `write_type`, and by what reads and writes object headers.
-use Rattle.std.specs.Prelude.{◌≡◌, ℕ, ◌+◌, ◌*◌, ◌/◌, ◌%◌, ◌≤◌, ◌==◌, Bool, if◌then◌else◌, ◌⊎◌, List, [], ◌∷◌, ◌++◌, length, slice_index}
+use Rattle.std.specs.Prelude.{◌≡◌, ℕ, ◌+◌, ◌*◌, ◌/◌, ◌%◌, ◌≤◌, ◌==◌, Bool, if◌then◌else◌, ◌⊎◌, List, [], ◌∷◌, ◌++◌}
+use Rattle.std.specs.Prelude.{length, slice_index}
 use Rattle.std.specs.Int.{w16, w32, to_le_bytes}
 use Rattle.h5_base.specs.Fields.{u16_at, u32_at}
 use Rattle.dtype.specs.declared.types.Pad.{Pad}
@@ -93,5 +94,6 @@ abbrev pub head_bytes : (class bits size : ℕ) → List ℕ
 head_bytes class bits size = ((16 + class) ∷ bits ∷ 0 ∷ 0 ∷ []) ++ to_le_bytes w32 size
 
 abbrev pub type_bytes : ElemType → List ℕ
-type_bytes (Int size signed big) = head_bytes 0 (flag big + 8 * flag signed) size ++ to_le_bytes w16 0 ++ to_le_bytes w16 (8 * size)
+type_bytes (Int size signed big) = head_bytes 0
+    (flag big + 8 * flag signed) size ++ to_le_bytes w16 0 ++ to_le_bytes w16 (8 * size)
 type_bytes (Text size pad) = head_bytes 3 (pad_code pad) size

@@ -1,8 +1,10 @@
 -- What the bytes of an element mean, which bytes a value has, and how a value is printed, by the HDF5 File Format
 -- Specification 3.0, IV.A.2.d (classes 0 and 3). Cited by `encode_value` and `print_value`, and by whatever reads,
 -- writes or prints elements, texts in quotes or names.
-use Rattle.std.specs.Prelude.{ℕ, ◌+◌, ◌-◌, ◌*◌, ◌/◌, ◌%◌, ◌^◌, ◌≤◌, ◌≤ℤ◌, ◌<ℤ◌, neg_ℤ, ◌==◌, Bool, true, false, not, ◌&&◌, if◌then◌else◌, ℤ, pos, List, [], ◌∷◌, ◌++◌, length, take, replicate, flat_map}
-use Rattle.std.specs.Int.{Width, w8, w16, w32, w64, cast_signed, cast_unsigned, to_le_bytes, to_be_bytes, from_le_bytes, from_be_bytes, is_in_range}
+use Rattle.std.specs.Prelude.{ℕ, ◌+◌, ◌-◌, ◌*◌, ◌/◌, ◌%◌, ◌^◌, ◌≤◌, ◌≤ℤ◌, ◌<ℤ◌, neg_ℤ, ◌==◌, Bool, true, false, not}
+use Rattle.std.specs.Prelude.{◌&&◌, if◌then◌else◌, ℤ, pos, List, [], ◌∷◌, ◌++◌, length, take, replicate, flat_map}
+use Rattle.std.specs.Int.{Width, w8, w16, w32, w64, cast_signed, cast_unsigned, to_le_bytes, to_be_bytes, from_le_bytes}
+use Rattle.std.specs.Int.{from_be_bytes, is_in_range}
 use Rattle.std.specs.List.{take_while, suffix_len}
 use Rattle.std.specs.Fmt.{signed_decimal, digit_glyph}
 use Rattle.dtype.specs.declared.types.Pad.{Pad}

@@ -1,6 +1,7 @@
 ghost use Rattle.std.specs.Prelude.{◌≡◌, ◌+◌, ◌*◌, ◌≤◌, ◌↔◌, ◌++◌, List, ℕ, IfOk, OnOk, IsTrue, length};
 ghost use Rattle.h5_base.specs.Fields.{u64s_at, u64s_bytes};
-ghost use Rattle.dtype.specs.Shapes.{IsShape, IsSpace, SpellsShape, shape_of, shape_bytes, max_bytes, AreU64s, MaxAreU64s};
+ghost use Rattle.dtype.specs.Shapes.{IsShape, IsSpace, SpellsShape, shape_of, shape_bytes, max_bytes, AreU64s};
+ghost use Rattle.dtype.specs.Shapes.{MaxAreU64s};
 
 use crate::{Dims, PartStop, Shape};
 use h5_base::{Bytes, NoMemory, read_u64s};

@@ -1,5 +1,6 @@
 ghost use Rattle.std.specs.Prelude.{◌≡◌, ◌<◌, ◌≤◌, ◌↔◌, ◌++◌, List, ℕ, IfOk, IfSome, IsTrue};
-ghost use Rattle.dtype.specs.Types.{IsClass, IsElemType, IsInt, IsText, IsIntSize, IsTextSize, SpellsType, head_bytes, int_of, pad_code, pad_of, size_of, text_of, type_bytes};
+ghost use Rattle.dtype.specs.Types.{IsClass, IsElemType, IsInt, IsText, IsIntSize, IsTextSize, SpellsType, head_bytes};
+ghost use Rattle.dtype.specs.Types.{int_of, pad_code, pad_of, size_of, text_of, type_bytes};
 
 use crate::{ElemType, Pad};
 use h5_base::{Bytes, NoMemory, u16_of, u32_of};

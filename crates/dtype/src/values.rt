@@ -1,7 +1,8 @@
 ghost use Rattle.std.specs.Prelude.{◌≡◌, ◌↔◌, ◌+◌, ◌≤◌, IfOk, OnOk, IsTrue, length};
 ghost use Rattle.std.specs.Fmt.{signed_decimal};
 ghost use Rattle.dtype.specs.Types.{IsElemType, IsIntSize, size_of};
-ghost use Rattle.dtype.specs.Values.{CanHold, HoldsNumber, canonical, encoding, least_fill, number_bytes, text_bytes, value_of, value_text, width_of};
+ghost use Rattle.dtype.specs.Values.{CanHold, HoldsNumber, canonical, encoding, least_fill, number_bytes, text_bytes};
+ghost use Rattle.dtype.specs.Values.{value_of, value_text, width_of};
 
 use crate::numbers::{decode_number, encode_number, holds_number};
 use crate::texts::{encode_text, holds_text, quote, trim_padding};
@@ -61,7 +62,8 @@ fn encode_string(alloc: Global, size: usize, pad: Pad, text: &[u8]) -> Result<By
 }
 
 /// The bytes of an element that holds the value; `WrongValue` for a text where the type is an integer, a number where
-/// it is a string, a number out of range, and a text of more than `size` bytes, `size` - 1 where it has to end with NUL.
+/// it is a string, a number out of range, and a text of more than `size` bytes, `size` - 1 where it has to end with
+/// NUL.
 pub fn encode_value(alloc: Global, elem_type: &ElemType, value: &Value) -> Result<Bytes, ValueStop>
     requires { IsElemType elem_type.now }
     ensures bytes { IfOk result (λ b. b ≡ encoding elem_type.now value.now) }

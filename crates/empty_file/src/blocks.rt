@@ -1,5 +1,6 @@
 ghost use Rattle.std.specs.Prelude.{◌≡◌, ◌≤◌, ◌-◌, ◌++◌, length, take};
-ghost use Rattle.empty_file.specs.Empty.{superblock, object_header, tree_node, heap_header, heap_segment, plain_places, zeros};
+ghost use Rattle.empty_file.specs.Empty.{superblock, object_header, tree_node, heap_header, heap_segment, plain_places};
+ghost use Rattle.empty_file.specs.Empty.{zeros};
 
 use h5_base::put_bytes;
 

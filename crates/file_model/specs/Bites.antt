@@ -1,5 +1,6 @@
 -- What no bytes hold: laws that show that the definitions refuse what they should, each a clause of `laws::bites`.
-use Rattle.std.specs.Prelude.{◌≡◌, ◌≢◌, ℕ, ◌+◌, ◌-◌, ◌*◌, ◌%◌, ◌^◌, ◌<◌, ◌≤◌, false, List, [], ◌∷◌, ◌++◌, length, Some, ◌⊎◌}
+use Rattle.std.specs.Prelude.{◌≡◌, ◌≢◌, ℕ, ◌+◌, ◌-◌, ◌*◌, ◌%◌, ◌^◌, ◌<◌, ◌≤◌, false, List, [], ◌∷◌, ◌++◌, length, Some}
+use Rattle.std.specs.Prelude.{◌⊎◌}
 use Rattle.outside.specs.Array.{Array}
 use Rattle.h5_base.specs.declared.extent.MemClass.{MemClass}
 use Rattle.h5_base.specs.Fields.{u64_at}
@@ -17,47 +18,59 @@ use Rattle.file_model.specs.Chunks.{Chunk, IsStored, stored_at}
 
 -- names out of order in a symbol table node
 abbrev pub DisorderInNode : Type 0
-DisorderInNode = (b : Array) (ks : Ks) (segment : List ℕ) (at : ℕ) (f g : Found) (fs : List Found) (bs : List Block) → name_lt f.name g.name ≡ false
+DisorderInNode = (b : Array) (ks : Ks) (segment : List ℕ) (at : ℕ) (f g : Found) (fs : List Found) (bs : List Block)
+    → name_lt f.name g.name ≡ false
     → IsLeaf b ks segment at (f ∷ g ∷ fs) bs → ⊥
 
 -- and between nodes: in the list of a whole group
 abbrev pub DisorderInGroup : Type 0
-DisorderInGroup = (b : Array) (ks : Ks) (tree heap : ℕ) (f g : Found) (fs : List Found) (bs : List Block) → name_lt f.name g.name ≡ false
+DisorderInGroup = (b : Array) (ks : Ks) (tree heap : ℕ) (f g : Found) (fs : List Found) (bs : List Block)
+    → name_lt f.name g.name ≡ false
     → HasLinks b ks tree heap (f ∷ g ∷ fs) bs → ⊥
 
 -- a name that is not above the key before it
 abbrev pub NameBelowKey : Type 0
-NameBelowKey = (segment : List ℕ) (low : Name) (k l c : ℕ) (f : Found) (here : List Found) (own bs : List Block) → HasText segment k low → name_lt low f.name ≡ false
-    → AreChildren segment (λ at fs blocks. (at ≡ c) × (fs ≡ f ∷ here) × (blocks ≡ own)) (k ∷ l ∷ []) (c ∷ []) (f ∷ here) bs → ⊥
+NameBelowKey = (segment : List ℕ) (low : Name) (k l c : ℕ) (f : Found) (here : List Found) (own bs : List Block)
+    → HasText segment k low → name_lt low f.name ≡ false
+    → AreChildren segment (λ at fs blocks. (at ≡ c) × (fs ≡ f ∷ here)
+    × (blocks ≡ own)) (k ∷ l ∷ []) (c ∷ []) (f ∷ here) bs → ⊥
 
 -- or above the key behind it
 abbrev pub NameAboveKey : Type 0
-NameAboveKey = (segment : List ℕ) (high : Name) (k l c : ℕ) (f : Found) (here : List Found) (own bs : List Block) → HasText segment l high → (name_lt high f.name ≡ false → ⊥)
-    → AreChildren segment (λ at fs blocks. (at ≡ c) × (fs ≡ f ∷ here) × (blocks ≡ own)) (k ∷ l ∷ []) (c ∷ []) (f ∷ here) bs → ⊥
+NameAboveKey = (segment : List ℕ) (high : Name) (k l c : ℕ) (f : Found) (here : List Found) (own bs : List Block)
+    → HasText segment l high → (name_lt high f.name ≡ false → ⊥)
+    → AreChildren segment (λ at fs blocks. (at ≡ c) × (fs ≡ f ∷ here)
+    × (blocks ≡ own)) (k ∷ l ∷ []) (c ∷ []) (f ∷ here) bs → ⊥
 
 -- a key whose text is outside the segment, beside the first symbol table node
 abbrev pub KeyOutside : Type 0
-KeyOutside = (b : Array) (ks : Ks) (segment keys children : List ℕ) (k l c : ℕ) (fs : List Found) (bs : List Block) → (length segment ≤ k) ⊎ (length segment ≤ l)
+KeyOutside = (b : Array) (ks : Ks) (segment keys children : List ℕ) (k l c : ℕ) (fs : List Found) (bs : List Block)
+    → (length segment ≤ k) ⊎ (length segment ≤ l)
     → AreChildren segment (IsLeaf b ks segment) (k ∷ l ∷ keys) (c ∷ children) fs bs → ⊥
 
 -- two blocks that share a byte
 abbrev pub SharedByte : Type 0
-SharedByte = (e : Bounds) (x y : Block) (blocks : List Block) (address : ℕ) → x.start ≤ address → address < x.start + x.len → y.start ≤ address → address < y.start + y.len
+SharedByte = (e : Bounds) (x y : Block) (blocks : List Block) (address : ℕ) → x.start ≤ address
+    → address < x.start + x.len → y.start ≤ address → address < y.start + y.len
     → AreKept e (x ∷ y ∷ blocks) → ⊥
 
 -- a block past the end of every region
 abbrev pub PastEnd : Type 0
-PastEnd = (e : Bounds) (x : Block) (blocks : List Block) → ((c : MemClass) → e.ends c < x.start + x.len) → AreKept e (x ∷ blocks) → ⊥
+PastEnd = (e : Bounds) (x : Block) (blocks : List Block) → ((c : MemClass) → e.ends c < x.start + x.len)
+    → AreKept e (x ∷ blocks) → ⊥
 
 -- a first message that is a continuation and names a block within its own header
 abbrev pub OwnContinuation : Type 0
-OwnContinuation = (e : Bounds) (at : ℕ) (prefix : Prefix) (p : Part) (parts : List Part) (m : Met) (ms : List Met) (blocks : List Block)
-    → p.messages ≡ m ∷ ms → m.kind ≡ 0x10 → at ≤ u64_at m.body 0 → 0 < u64_at m.body 8 → u64_at m.body 0 + u64_at m.body 8 ≤ at + 16 + prefix.size
+OwnContinuation = (e : Bounds) (at : ℕ) (prefix : Prefix) (p : Part) (parts : List Part) (m : Met) (ms : List Met)
+    (blocks : List Block)
+    → p.messages ≡ m ∷ ms → m.kind ≡ 0x10 → at ≤ u64_at m.body 0 → 0 < u64_at m.body 8
+    → u64_at m.body 0 + u64_at m.body 8 ≤ at + 16 + prefix.size
     → AreKept e (header_blocks at prefix (p ∷ parts) ++ blocks) → ⊥
 
 -- a chunk whose offset is no multiple of its size
 abbrev pub LooseChunk : Type 0
-LooseChunk = (size element : ℕ) (key : ChunkKey) (n at : ℕ) (cs : List Chunk) (bs : List Block) → key.offset ≡ n ∷ [] → n % size ≢ 0
+LooseChunk = (size element : ℕ) (key : ChunkKey) (n at : ℕ) (cs : List Chunk) (bs : List Block) → key.offset ≡ n ∷ []
+    → n % size ≢ 0
     → IsStored 1 (size ∷ element ∷ []) key at cs bs → ⊥
 
 -- a dataspace whose elements have too many bytes
@@ -67,9 +80,14 @@ HugeSpace = (ms : List Met) (i : DataInfo) → 2 ^ 63 - 1 < product i.shape.dims
 -- the chunks of a dataset of 4 by 4 elements of 4 bytes, 2 by 2 in a chunk
 abbrev pub four_chunks : List Chunk
 four_chunks =
-    record { offset = 0 ∷ 0 ∷ []; at = 1000 } ∷ record { offset = 0 ∷ 2 ∷ []; at = 2000 } ∷ record { offset = 2 ∷ 0 ∷ []; at = 3000 } ∷ record { offset = 2 ∷ 2 ∷ []; at = 4000 } ∷ []
+    record { offset = 0 ∷ 0 ∷ []; at = 1000 } ∷ record { offset = 0 ∷ 2 ∷ []; at = 2000 } ∷ record {
+      offset = 2 ∷ 0 ∷
+          [];
+      at = 3000;
+    } ∷ record { offset = 2 ∷ 2 ∷ []; at = 4000 } ∷ []
 
 -- the element at 1,3 is the last of the second chunk, and that at 2,1 the second of the third
 abbrev pub PlaceInChunk : Type 0
 PlaceInChunk = (i : DataInfo) → i.shape.dims ≡ 4 ∷ 4 ∷ [] → size_of i.elem ≡ 4
-    → (stored_at i (layout.Chunked 500 (2 ∷ 2 ∷ 4 ∷ [])) four_chunks (1 ∷ 3 ∷ []) ≡ Some 2012) × (stored_at i (layout.Chunked 500 (2 ∷ 2 ∷ 4 ∷ [])) four_chunks (2 ∷ 1 ∷ []) ≡ Some 3004)
+    → (stored_at i (layout.Chunked 500 (2 ∷ 2 ∷ 4 ∷ [])) four_chunks (1 ∷ 3 ∷ []) ≡ Some 2012)
+    × (stored_at i (layout.Chunked 500 (2 ∷ 2 ∷ 4 ∷ [])) four_chunks (2 ∷ 1 ∷ []) ≡ Some 3004)

@@ -1,7 +1,8 @@
 -- The chunks of a dataset, from left to right under its B-tree, and where its elements lie, by the HDF5 File Format
 -- Specification 3.0, III.A.1 (B-tree nodes) and IV.A.2.i (layout).
 -- Cited by what a file's bytes hold.
-use Rattle.std.specs.Prelude.{◌≡◌, ℕ, zero, suc, ◌+◌, ◌*◌, ◌%◌, ◌==◌, Bool, true, false, not, ◌&&◌, List, [], ◌∷◌, ◌++◌, length, take, Option, Some, None, IsTrue, if◌then◌else◌}
+use Rattle.std.specs.Prelude.{◌≡◌, ℕ, zero, suc, ◌+◌, ◌*◌, ◌%◌, ◌==◌, Bool, true, false, not, ◌&&◌, List, [], ◌∷◌, ◌++◌}
+use Rattle.std.specs.Prelude.{length, take, Option, Some, None, IsTrue, if◌then◌else◌}
 use Rattle.std.specs.Ordering.{is_lt, nat_cmp}
 use Rattle.std.specs.Cmp.Lexicographic.{slice_cmp}
 use Rattle.std.specs.Str.{bytes_eq}
@@ -73,7 +74,8 @@ AreChildren Child first keys [] cs bs = (cs ≡ []) × (bs ≡ [])
 AreChildren Child first [] (a ∷ rest) cs bs = ⊥
 AreChildren Child first (k ∷ []) (a ∷ rest) cs bs = ⊥
 AreChildren Child first (k ∷ l ∷ ks) (a ∷ rest) cs bs =
-    (here later : List Chunk) × (own more : List Block) × Child k a here own × AreChildren Child false (l ∷ ks) rest later more
+    (here later : List Chunk) × (own more : List Block) × Child k a here own
+    × AreChildren Child false (l ∷ ks) rest later more
     × IsFrom first k.offset here × IsBelow rest l.offset here × (cs ≡ here ++ later) × (bs ≡ own ++ more)
 
 -- the sizes of a chunk in elements, and its bytes
@@ -81,13 +83,15 @@ abbrev pub chunk_sizes : ℕ → List ℕ → List ℕ
 chunk_sizes rank sizes = take rank sizes
 
 -- A chunk that is stored: whole, its key telling where it begins and how many bytes it has.
-pub record IsStored (rank : ℕ) (sizes : List ℕ) (key : ChunkKey) (at : ℕ) (cs : List Chunk) (bs : List Block) : Type 0 where
+pub record IsStored (rank : ℕ) (sizes : List ℕ) (key : ChunkKey) (at : ℕ) (cs : List Chunk)
+    (bs : List Block) : Type 0 where
   pub bytes : key.bytes ≡ product sizes
   pub multiples : AreMultiples (chunk_sizes rank sizes) key.offset
   pub chunk : cs ≡ record { offset = key.offset; at = at } ∷ []
   pub block : bs ≡ record { start = at; len = product sizes } ∷ []
 
-pub record IsNode (b : Array) (k rank : ℕ) (level : ℕ) (Child : Under) (at : ℕ) (cs : List Chunk) (bs : List Block) : Type 0 where
+pub record IsNode (b : Array) (k rank : ℕ) (level : ℕ) (Child : Under) (at : ℕ) (cs : List Chunk)
+    (bs : List Block) : Type 0 where
   pub node : ChunkNode
   pub spelled : SpellsChunkNode k rank node (bytes_of b at (chunk_node_len k rank))
   pub level_is : node.level ≡ level
@@ -116,7 +120,8 @@ IsIndexed true b k rank sizes tree cs bs = (level : ℕ) × IsIndex b k rank siz
 abbrev pub IsStoredBy : Array → ℕ → DataInfo → Layout → List Chunk → List Block → Type 0
 IsStoredBy b k i (layout.Contiguous at len) cs bs =
     (cs ≡ []) × (bs ≡ (if at == undefined then [] else placed at (product i.shape.dims * size_of i.elem)))
-IsStoredBy b k i (layout.Chunked tree sizes) cs bs = IsIndexed (is_read i tree) b k (length i.shape.dims) sizes tree cs bs
+IsStoredBy b k i (layout.Chunked tree sizes) cs bs = IsIndexed (is_read i tree) b k
+    (length i.shape.dims) sizes tree cs bs
 
 -- the address of the chunk that begins at an offset
 abbrev pub chunk_at : List Chunk → List ℕ → Option ℕ
@@ -127,8 +132,8 @@ abbrev pub beyond : Option ℕ → ℕ → Option ℕ
 beyond None n = None
 beyond (Some at) n = Some (at + n)
 
--- Where the element at an index is stored, if it is: at its row-major place in the one block, or in the chunk whose offset
--- is its index rounded down to a multiple of the chunk's sizes.
+-- Where the element at an index is stored, if it is: at its row-major place in the one block, or in the chunk whose
+-- offset is its index rounded down to a multiple of the chunk's sizes.
 abbrev pub stored_at : DataInfo → Layout → List Chunk → List ℕ → Option ℕ
 stored_at i (layout.Contiguous at len) cs index =
     if at == undefined then None else Some (at + size_of i.elem * place i.shape.dims index)
@@ -143,7 +148,8 @@ bytes_or b (Some at) size fill = bytes_of b at size
 -- the elements of a dataset; a filtered one's aren't read
 abbrev pub elements_of : Array → DataInfo → List Chunk → List (List ℕ)
 elements_of b i cs =
-    if i.filtered then [] else elements_by i.shape.dims (λ index. bytes_or b (stored_at i i.layout cs index) (size_of i.elem) i.fill)
+    if i.filtered then [] else elements_by i.shape.dims
+    (λ index. bytes_or b (stored_at i i.layout cs index) (size_of i.elem) i.fill)
 
 -- the sizes of its chunks, where it has some
 abbrev pub chunk_of : DataInfo → Layout → Option (List ℕ)

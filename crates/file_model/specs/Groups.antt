@@ -1,7 +1,8 @@
 -- The links of a group, from left to right under its B-tree, by the HDF5 File Format Specification 3.0, III.A.1 (B-tree
 -- nodes), III.B and III.C (symbol table nodes and entries) and III.D (local heaps).
 -- Cited by what a file's bytes hold.
-use Rattle.std.specs.Prelude.{◌≡◌, ◌≢◌, ℕ, zero, suc, ◌+◌, ◌≤◌, ◌<◌, false, List, [], ◌∷◌, ◌++◌, length, slice_index, map, All, IsTrue}
+use Rattle.std.specs.Prelude.{◌≡◌, ◌≢◌, ℕ, zero, suc, ◌+◌, ◌≤◌, ◌<◌, false, List, [], ◌∷◌, ◌++◌, length, slice_index}
+use Rattle.std.specs.Prelude.{map, All, IsTrue}
 use Rattle.outside.specs.Array.{Array, bytes_of}
 use Rattle.h5_base.specs.Fields.{bytes_at}
 use Rattle.node_codec.specs.Snod.{SpellsSnod, soft_value_at, snod_len}
@@ -38,7 +39,8 @@ abbrev pub AreLinks : List ℕ → List SnodEntry → List Found → Type 0
 AreLinks segment [] [] = Unit {0}
 AreLinks segment [] (f ∷ fs) = ⊥
 AreLinks segment (e ∷ es) [] = ⊥
-AreLinks segment (e ∷ es) (f ∷ fs) = HasText segment e.name_at f.name × IsTarget segment e f.target × AreLinks segment es fs
+AreLinks segment (e ∷ es) (f ∷ fs) = HasText segment e.name_at f.name × IsTarget segment e f.target
+    × AreLinks segment es fs
 
 -- above the one key's name, and at most the other's
 abbrev pub AreBetween : Name → Name → List Found → Type 0
@@ -55,7 +57,8 @@ AreChildren segment Child keys [] fs bs = (fs ≡ []) × (bs ≡ [])
 AreChildren segment Child [] (c ∷ cs) fs bs = ⊥
 AreChildren segment Child (k ∷ []) (c ∷ cs) fs bs = ⊥
 AreChildren segment Child (k ∷ l ∷ ks) (c ∷ cs) fs bs =
-    (low high : Name) × (here later : List Found) × (own more : List Block) × HasText segment k low × HasText segment l high × Child c here own × AreBetween low high here
+    (low high : Name) × (here later : List Found) × (own more : List Block) × HasText segment k low
+    × HasText segment l high × Child c here own × AreBetween low high here
     × AreChildren segment Child (l ∷ ks) cs later more × (fs ≡ here ++ later) × (bs ≡ own ++ more)
 
 -- the K values of a superblock
@@ -71,7 +74,8 @@ pub record IsLeaf (b : Array) (ks : Ks) (segment : List ℕ) (at : ℕ) (fs : Li
   pub ordered : AreOrdered (map (λ f. f.name) fs)
   pub blocks : bs ≡ record { start = at; len = snod_len ks.leaf } ∷ []
 
-pub record IsNode (b : Array) (ks : Ks) (segment : List ℕ) (level : ℕ) (Child : Under) (at : ℕ) (fs : List Found) (bs : List Block) : Type 0 where
+pub record IsNode (b : Array) (ks : Ks) (segment : List ℕ) (level : ℕ) (Child : Under) (at : ℕ) (fs : List Found)
+    (bs : List Block) : Type 0 where
   pub node : GroupNode
   pub spelled : SpellsGroupNode ks.internal node (bytes_of b at (group_node_len ks.internal))
   pub level_is : node.level ≡ level

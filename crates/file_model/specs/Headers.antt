@@ -50,13 +50,14 @@ abbrev pub IsRead : List ℕ → ℕ → List Met → Type 0
 IsRead bytes count ms = (length bytes < after 0 ms + 8) ⊎ (length ms ≡ count)
 
 -- The blocks that wait are read one after another: those of the header first, then those of each continuation in the
--- order in which the continuations were met. So many messages are wanted at first; behind these parts, the blocks `left`
--- wait, and `wanted` messages are still wanted.
+-- order in which the continuations were met. So many messages are wanted at first; behind these parts, the blocks
+-- `left` wait, and `wanted` messages are still wanted.
 abbrev pub AreMet : Array → List Block → ℕ → List Part → (left : List Block) → (wanted : ℕ) → Type 0
 AreMet b waiting count [] left wanted = (left ≡ waiting) × (wanted ≡ count)
 AreMet b [] count (p ∷ ps) left wanted = ⊥
 AreMet b (x ∷ more) count (p ∷ ps) left wanted =
-    (0 < count) × (p.block ≡ x) × Stand (bytes_of b x.start x.len) 0 p.messages × AreWhole p.messages × (length p.messages ≤ count)
+    (0 < count) × (p.block ≡ x) × Stand (bytes_of b x.start x.len) 0 p.messages × AreWhole p.messages
+    × (length p.messages ≤ count)
     × IsRead (bytes_of b x.start x.len) count p.messages
     × AreMet b (more ++ flat_map continued p.messages) (count - length p.messages) ps left wanted
 

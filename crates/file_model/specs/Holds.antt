@@ -166,7 +166,8 @@ pub record IsDriver (b : Array) (at : ℕ) (ident : List ℕ) : Type 0 where
 abbrev pub HasDriver : Array → Option (List ℕ) → ℕ → List Block → Type 0
 HasDriver b None at bs = bs ≡ []
 HasDriver b (Some ident) at bs =
-    ((at ≡ undefined) × (bs ≡ [])) ⊎ ((at ≢ undefined) × IsDriver b at ident × (bs ≡ record { start = at; len = 16 + u32_at (bytes_of b at 16) 4 } ∷ []))
+    ((at ≡ undefined) × (bs ≡ [])) ⊎ ((at ≢ undefined) × IsDriver b at ident
+    × (bs ≡ record { start = at; len = 16 + u32_at (bytes_of b at 16) 4 } ∷ []))
 
 -- the superblock is spelled by the bytes from address 0 on that lie below the end of its region
 abbrev pub super_bytes_of : Array → Bounds → List ℕ

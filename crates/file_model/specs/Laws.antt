@@ -12,7 +12,8 @@ use Rattle.file_model.specs.Groups.{Ks}
 use Rattle.file_model.specs.Limits.{IsWithinLimits}
 use Rattle.file_model.specs.Refusals.{Refusal}
 use Rattle.file_model.specs.RefusedTree.{IsFileRefused}
-use Rattle.file_model.specs.Holds.{Full, FullLinks, GroupAt, IsHeld, AreHeld, blocks_of, blocks_in, leaf_blocks, target_of, plain, Holds, HoldsFull}
+use Rattle.file_model.specs.Holds.{Full, FullLinks, GroupAt, IsHeld, AreHeld, blocks_of, blocks_in, leaf_blocks}
+use Rattle.file_model.specs.Holds.{target_of, plain, Holds, HoldsFull}
 
 -- what a link leads to is one object
 abbrev pub OneObject : Type 0
@@ -20,7 +21,8 @@ OneObject = (b : Array) (ks : Ks) (t u : Full) → IsHeld b ks t → IsHeld b ks
 
 -- an array and ends hold at most one tree of places
 abbrev pub OneFull : Type 0
-OneFull = (b : Array) (e : Bounds) (s r : Superblock) (g h : GroupAt) (ls ks : FullLinks) → HoldsFull b e s g ls → HoldsFull b e r h ks → (s ≡ r) × (Group g ls ≡ Group h ks)
+OneFull = (b : Array) (e : Bounds) (s r : Superblock) (g h : GroupAt) (ls ks : FullLinks) → HoldsFull b e s g ls
+    → HoldsFull b e r h ks → (s ≡ r) × (Group g ls ≡ Group h ks)
 
 -- and one tree
 abbrev pub OneTree : Type 0
@@ -49,23 +51,27 @@ abbrev mutual
 
   pub beside_in : Name → List Name → FullLinks → List Block
   beside_in n ns Empty = []
-  beside_in n ns (Link m t rest) = if same_name m n then (beside ns t ++ blocks_in rest) else (blocks_of t ++ beside_in n ns rest)
+  beside_in n ns (Link m t rest) = if same_name m n then (beside ns t ++ blocks_in rest) else
+      (blocks_of t ++ beside_in n ns rest)
 
--- where other bytes hold another object with the same target at the end of a path, and the bytes beside it stay, the edited
--- tree is held
+-- where other bytes hold another object with the same target at the end of a path, and the bytes beside it stay, the
+-- edited tree is held
 abbrev pub EditLaw : Type 0
-EditLaw = (b c : Array) (ks : Ks) (p : List Name) (t u v : Full) → walk t p ≡ Ok u → IsHeld b ks t → Agree b c (beside p t) → IsHeld c ks v → target_of v ≡ target_of u
+EditLaw = (b c : Array) (ks : Ks) (p : List Name) (t u v : Full) → walk t p ≡ Ok u → IsHeld b ks t
+    → Agree b c (beside p t) → IsHeld c ks v → target_of v ≡ target_of u
     → IsHeld c ks (edit p (λ _. v) t)
 
 -- links that are held, with one more, with one fewer, and with another object behind a name
 abbrev pub InsertLaw : Type 0
-InsertLaw = (b : Array) (ks : Ks) (ls : FullLinks) (n : Name) (t : Full) → AreHeld b ks ls → IsHeld b ks t → AreHeld b ks (insert ls n t)
+InsertLaw = (b : Array) (ks : Ks) (ls : FullLinks) (n : Name) (t : Full) → AreHeld b ks ls → IsHeld b ks t
+    → AreHeld b ks (insert ls n t)
 
 abbrev pub RemoveLaw : Type 0
 RemoveLaw = (b : Array) (ks : Ks) (ls : FullLinks) (n : Name) → AreHeld b ks ls → AreHeld b ks (remove ls n)
 
 abbrev pub ReplaceLaw : Type 0
-ReplaceLaw = (b : Array) (ks : Ks) (ls : FullLinks) (n : Name) (t : Full) → AreHeld b ks ls → IsHeld b ks t → AreHeld b ks (replace ls n (λ _. t))
+ReplaceLaw = (b : Array) (ks : Ks) (ls : FullLinks) (n : Name) (t : Full) → AreHeld b ks ls → IsHeld b ks t
+    → AreHeld b ks (replace ls n (λ _. t))
 
 -- an edit seen without places is the edit of the plain tree
 abbrev pub PlainEdit : Type 0
@@ -85,7 +91,8 @@ all_blocks s driver t = record { start = 0; len = super_len s.version } ∷ driv
 
 -- where ends rise, and the bytes of all blocks stay, the tree with its places stays held
 abbrev pub FileFrame : Type 0
-FileFrame = (b c : Array) (e f : Bounds) (s : Superblock) (g : GroupAt) (ls : FullLinks) (h : HoldsFull b e s g ls) → Rises e f → Agree b c (all_blocks s h.driver (Group g ls))
+FileFrame = (b c : Array) (e f : Bounds) (s : Superblock) (g : GroupAt) (ls : FullLinks) (h : HoldsFull b e s g ls)
+    → Rises e f → Agree b c (all_blocks s h.driver (Group g ls))
     → HoldsFull c f s g ls
 
 -- where ends rise, the tree stays held
@@ -96,5 +103,6 @@ RiseLaw = (b : Array) (e f : Bounds) (t : Plain) → Rises e f → Holds b e t �
 
 -- a file whose tree is held within the limits is refused by no line
 abbrev pub NotRefused : Type 0
-NotRefused = (b : Array) (e : Bounds) (s : Superblock) (g : GroupAt) (ls : FullLinks) (h : HoldsFull b e s g ls) (r : Refusal)
+NotRefused = (b : Array) (e : Bounds) (s : Superblock) (g : GroupAt) (ls : FullLinks) (h : HoldsFull b e s g ls)
+    (r : Refusal)
     → IsWithinLimits b (all_blocks s h.driver (Group g ls)) (Group g ls) → IsFileRefused b e r → ⊥

@@ -33,8 +33,8 @@ leaf_objects (DataLeaf d) = 1
 leaf_objects (SoftLeaf text) = 0
 leaf_objects (OtherLeaf o) = 1
 
--- How many links lead down to the deepest object of what a link leads to, that link counted; and how many from a group down
--- to the deepest object below it.
+-- How many links lead down to the deepest object of what a link leads to, that link counted; and how many from a group
+-- down to the deepest object below it.
 abbrev mutual
   pub depth_to : Full → ℕ
   depth_to (Group g ls) = depth_in ls + 1
@@ -59,7 +59,8 @@ abbrev pub header_bytes : ℕ → Prefix → List Part → ℕ
 header_bytes at prefix parts = sum_by (λ x. x.len) (header_blocks at prefix parts)
 
 abbrev pub IsShort : Array → ℕ → Type 0
-IsShort b at = (prefix : Prefix) (parts : List Part) → IsHeader b at prefix parts → header_bytes at prefix parts ≤ most_header
+IsShort b at = (prefix : Prefix) (parts : List Part) → IsHeader b at prefix parts
+    → header_bytes at prefix parts ≤ most_header
 
 abbrev pub IsSmallHeap : Array → ℕ → Type 0
 IsSmallHeap b at = (head : HeapHead) → SpellsHeap head (bytes_of b at 32) → head.len ≤ most_segment

@@ -1,7 +1,7 @@
--- What an object is, by the messages of its header: a group, a dataset or another object (HDF5 File Format Specification
--- 3.0, IV.A.2.b, d, e, f, h, i, l and r).
--- Cited by what a file's bytes hold.
-use Rattle.std.specs.Prelude.{◌≡◌, ℕ, ◌/◌, ◌%◌, ◌==◌, Bool, false, List, [], ◌∷◌, length, replicate, Option, Some, None, is_some, unwrap_or, if◌then◌else◌}
+-- What an object is, by the messages of its header: a group, a dataset or another object (HDF5 File Format
+-- Specification 3.0, IV.A.2.b, d, e, f, h, i, l and r). Cited by what a file's bytes hold.
+use Rattle.std.specs.Prelude.{◌≡◌, ℕ, ◌/◌, ◌%◌, ◌==◌, Bool, false, List, [], ◌∷◌, length, replicate, Option, Some, None}
+use Rattle.std.specs.Prelude.{is_some, unwrap_or, if◌then◌else◌}
 use Rattle.h5_base.specs.Fields.{u64_at}
 use Rattle.dtype.specs.Products.{FitsFile}
 use Rattle.dtype.specs.Shapes.{SpellsShape}
@@ -55,10 +55,11 @@ fill_bytes size (fill.Value bytes) = bytes
 -- by the fill value message, and zeros where there is neither this nor the old one
 abbrev pub HasFill : List Met → ℕ → Option Met → List ℕ → Type 0
 HasFill ms size None bytes = (has 0x4 ms ≡ false) × (bytes ≡ replicate size 0)
-HasFill ms size (Some m) bytes = (is_shared m ≡ false) × ((f : Fill) × SpellsFill f m.body × IsOfSize size f × (bytes ≡ fill_bytes size f))
+HasFill ms size (Some m) bytes = (is_shared m ≡ false)
+    × ((f : Fill) × SpellsFill f m.body × IsOfSize size f × (bytes ≡ fill_bytes size f))
 
--- Dataspace, datatype and layout that are supported and fit one another, a fill value of the element's size, no external
--- files. A filter pipeline makes it a filtered dataset.
+-- Dataspace, datatype and layout that are supported and fit one another, a fill value of the element's size, no
+-- external files. A filter pipeline makes it a filtered dataset.
 pub record IsDataHeader (ms : List Met) (i : DataInfo) : Type 0 where
   pub no_table : has 0x11 ms ≡ false
   pub no_files : has 0x7 ms ≡ false

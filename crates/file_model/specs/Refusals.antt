@@ -1,5 +1,5 @@
--- Why the blocks of a file are refused, and why an object's header is: by bytes that are reached once all before them was
--- read, beside the blocks that were met before. Cited by what opens a file.
+-- Why the blocks of a file are refused, and why an object's header is: by bytes that are reached once all before them
+-- was read, beside the blocks that were met before. Cited by what opens a file.
 use Rattle.std.specs.Prelude.{◌≡◌, ◌≢◌, ℕ, ◌+◌, ◌<◌, ◌≤◌, List, [], ◌∷◌, ◌++◌, length, Some}
 use Rattle.std.specs.List.{sum_by}
 use Rattle.outside.specs.Array.{Array, bytes_of}
@@ -12,7 +12,8 @@ use Rattle.h5_base.specs.declared.kinds.What.TheVariants as what
 use Rattle.h5_base.specs.Fields.{u64_at}
 use Rattle.header_codec.specs.Headers.{SpellsPrefix}
 use Rattle.header_codec.specs.declared.types.Prefix.{Prefix}
-use Rattle.file_model.specs.Headers.{Met, Stand, after, AreWhole, Part, AreMet, first_block, header_blocks, later_header}
+use Rattle.file_model.specs.Headers.{Met, Stand, after, AreWhole, Part, AreMet, first_block, header_blocks}
+use Rattle.file_model.specs.Headers.{later_header}
 use Rattle.file_model.specs.Limits.{most_header}
 
 -- a line of the refusals of files that the reading of a tree can end with
@@ -50,7 +51,8 @@ abbrev pub met_bytes : List Block → ℕ
 met_bytes = sum_by (λ x. x.len)
 
 -- Some messages of a block were read, after all of the blocks before it, and more are wanted.
-pub record IsReading (b : Array) (at : ℕ) (prefix : Prefix) (parts : List Part) (block : Block) (ms : List Met) : Type 0 where
+pub record IsReading (b : Array) (at : ℕ) (prefix : Prefix) (parts : List Part) (block : Block)
+    (ms : List Met) : Type 0 where
   pub unread : List Block
   pub wanted : ℕ
   pub before : AreMet b (first_block at prefix ∷ []) prefix.messages parts (block ∷ unread) wanted
@@ -69,22 +71,36 @@ pub record IsNext (b : Array) (block : Block) (ms : List Met) (m : Met) : Type 0
 
 -- A message, or the block that a continuation names, is refused; or the blocks end before so many messages were met as
 -- the prefix counts.
-pub data IsMessageRefused (b : Array) (e : Bounds) (met : List Block) (at : ℕ) (prefix : Prefix) (r : Refusal) : Type 0 where
-  EndedEarly : (parts : List Part) (wanted : ℕ) → AreMet b (first_block at prefix ∷ []) prefix.messages parts [] wanted → 0 < wanted → r ≡ Malformed at kind.Header
+pub data IsMessageRefused (b : Array) (e : Bounds) (met : List Block) (at : ℕ) (prefix : Prefix)
+    (r : Refusal) : Type 0 where
+  EndedEarly : (parts : List Part) (wanted : ℕ) → AreMet b (first_block at prefix ∷ []) prefix.messages parts [] wanted
+      → 0 < wanted → r ≡ Malformed at kind.Header
       → IsMessageRefused b e met at prefix r
-  BadMessage : (parts : List Part) (block : Block) (ms : List Met) → IsReading b at prefix parts block ms → after 0 ms + 8 ≤ block.len
-      → ((m : Met) → IsNext b block ms m → ⊥) → r ≡ Malformed (block.start + after 0 ms) kind.Message → IsMessageRefused b e met at prefix r
-  LargeHeader : (parts : List Part) (block : Block) (ms : List Met) (m : Met) → IsReading b at prefix parts block ms → IsNext b block ms m
-      → most_header < met_bytes (so_far at prefix parts block (ms ++ m ∷ [])) → r ≡ Unsupported what.Header → IsMessageRefused b e met at prefix r
-  BadContinuation : (parts : List Part) (block : Block) (ms : List Met) (m : Met) → IsReading b at prefix parts block ms → IsNext b block ms m → m.kind ≡ 0x10
-      → IsPlacedRefused e (met ++ so_far at prefix parts block ms) (u64_at m.body 0) (u64_at m.body 8) kind.Header r → IsMessageRefused b e met at prefix r
+  BadMessage : (parts : List Part) (block : Block) (ms : List Met) → IsReading b at prefix parts block ms
+      → after 0 ms + 8 ≤ block.len
+      → ((m : Met) → IsNext b block ms m → ⊥) → r ≡ Malformed (block.start + after 0 ms) kind.Message
+      → IsMessageRefused b e met at prefix r
+  LargeHeader : (parts : List Part) (block : Block) (ms : List Met) (m : Met) → IsReading b at prefix parts block ms
+      → IsNext b block ms m
+      → most_header < met_bytes (so_far at prefix parts block (ms ++ m ∷ [])) → r ≡ Unsupported what.Header
+      → IsMessageRefused b e met at prefix r
+  BadContinuation : (parts : List Part) (block : Block) (ms : List Met) (m : Met) → IsReading b at prefix parts block ms
+      → IsNext b block ms m → m.kind ≡ 0x10
+      → IsPlacedRefused e (met ++ so_far at prefix parts block ms) (u64_at m.body 0) (u64_at m.body 8) kind.Header r
+      → IsMessageRefused b e met at prefix r
 
 -- The header of an object is refused: by the 4 bytes of a later version, by the 16 of its prefix, or by all of it.
 pub data IsHeaderRefused (b : Array) (e : Bounds) (met : List Block) (at : ℕ) (r : Refusal) : Type 0 where
-  LaterHeader : bytes_of b at 4 ≡ later_header → IsBlockRefused e met (record { start = at; len = 4 }) kind.Header r → IsHeaderRefused b e met at r
-  PrefixBlock : bytes_of b at 4 ≢ later_header → IsBlockRefused e met (record { start = at; len = 16 }) kind.Header r → IsHeaderRefused b e met at r
-  NoPrefix : bytes_of b at 4 ≢ later_header → ((p : Prefix) → SpellsPrefix p (bytes_of b at 16) → ⊥) → r ≡ Malformed at kind.Header → IsHeaderRefused b e met at r
-  LargeFirst : (prefix : Prefix) → SpellsPrefix prefix (bytes_of b at 16) → most_header < 16 + prefix.size → r ≡ Unsupported what.Header → IsHeaderRefused b e met at r
-  HeaderBlock : (prefix : Prefix) → SpellsPrefix prefix (bytes_of b at 16) → IsBlockRefused e met (record { start = at; len = 16 + prefix.size }) kind.Header r
+  LaterHeader : bytes_of b at 4 ≡ later_header → IsBlockRefused e met (record { start = at; len = 4 }) kind.Header r
       → IsHeaderRefused b e met at r
-  InMessages : (prefix : Prefix) → SpellsPrefix prefix (bytes_of b at 16) → IsMessageRefused b e met at prefix r → IsHeaderRefused b e met at r
+  PrefixBlock : bytes_of b at 4 ≢ later_header → IsBlockRefused e met (record { start = at; len = 16 }) kind.Header r
+      → IsHeaderRefused b e met at r
+  NoPrefix : bytes_of b at 4 ≢ later_header → ((p : Prefix) → SpellsPrefix p (bytes_of b at 16) → ⊥)
+      → r ≡ Malformed at kind.Header → IsHeaderRefused b e met at r
+  LargeFirst : (prefix : Prefix) → SpellsPrefix prefix (bytes_of b at 16) → most_header < 16 + prefix.size
+      → r ≡ Unsupported what.Header → IsHeaderRefused b e met at r
+  HeaderBlock : (prefix : Prefix) → SpellsPrefix prefix (bytes_of b at 16)
+      → IsBlockRefused e met (record { start = at; len = 16 + prefix.size }) kind.Header r
+      → IsHeaderRefused b e met at r
+  InMessages : (prefix : Prefix) → SpellsPrefix prefix (bytes_of b at 16) → IsMessageRefused b e met at prefix r
+      → IsHeaderRefused b e met at r

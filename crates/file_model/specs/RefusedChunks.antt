@@ -1,6 +1,7 @@
 -- Why the block of a dataset's elements, or its chunk index, is refused, after the blocks that were met before.
 -- Cited by what opens a file.
-use Rattle.std.specs.Prelude.{◌≡◌, ◌≢◌, ◌⊎◌, ℕ, zero, suc, ◌+◌, ◌*◌, Bool, true, false, IsTrue, List, [], ◌∷◌, ◌++◌, length}
+use Rattle.std.specs.Prelude.{◌≡◌, ◌≢◌, ◌⊎◌, ℕ, zero, suc, ◌+◌, ◌*◌, Bool, true, false, IsTrue, List, [], ◌∷◌, ◌++◌}
+use Rattle.std.specs.Prelude.{length}
 use Rattle.outside.specs.Array.{Array, bytes_of}
 use Rattle.outside.specs.Blocks.{Block, Bounds, undefined}
 use Rattle.h5_base.specs.declared.kinds.BlockKind.TheVariants as kind
@@ -12,52 +13,71 @@ use Rattle.node_codec.specs.declared.chunk_node.ChunkNode.{ChunkNode}
 use Rattle.node_codec.specs.declared.chunk_node.ChunkKey.{ChunkKey}
 use Rattle.file_model.specs.Objects.{DataInfo}
 use Rattle.file_model.specs.Refusals.{Refusal, Malformed, IsBlockRefused, IsPlacedRefused}
-use Rattle.file_model.specs.Chunks.{Chunk, Under, AreMultiples, chunk_sizes, IsFrom, IsBelow, AreAscending, IsStored, IsIndex, is_read}
+use Rattle.file_model.specs.Chunks.{Chunk, Under, AreMultiples, chunk_sizes, IsFrom, IsBelow, AreAscending, IsStored}
+use Rattle.file_model.specs.Chunks.{IsIndex, is_read}
 
 abbrev pub RefusedChunks : Type 1
 RefusedChunks = List Block → ChunkKey → ℕ → Refusal → Type 0
 
 -- a chunk is refused: its block, its number of bytes, or its offset
-pub data IsChunkRefused (e : Bounds) (rank : ℕ) (sizes : List ℕ) (node : ℕ) (met : List Block) (key : ChunkKey) (at : ℕ) (r : Refusal) : Type 0 where
-  ChunkBlock : IsBlockRefused e met (record { start = at; len = product sizes }) kind.Raw r → IsChunkRefused e rank sizes node met key at r
+pub data IsChunkRefused (e : Bounds) (rank : ℕ) (sizes : List ℕ) (node : ℕ) (met : List Block) (key : ChunkKey)
+    (at : ℕ) (r : Refusal) : Type 0 where
+  ChunkBlock : IsBlockRefused e met (record { start = at; len = product sizes }) kind.Raw r
+      → IsChunkRefused e rank sizes node met key at r
   WrongBytes : key.bytes ≢ product sizes → r ≡ Malformed node kind.Tree → IsChunkRefused e rank sizes node met key at r
-  WrongOffset : (AreMultiples (chunk_sizes rank sizes) key.offset → ⊥) → r ≡ Malformed node kind.Tree → IsChunkRefused e rank sizes node met key at r
+  WrongOffset : (AreMultiples (chunk_sizes rank sizes) key.offset → ⊥) → r ≡ Malformed node kind.Tree
+      → IsChunkRefused e rank sizes node met key at r
 
 -- the offsets under a child are refused: for the key before them, the key behind them, or the offsets before them
-pub data AreOffsetsRefused (node : ℕ) (first : Bool) (k l : List ℕ) (rest : List ℕ) (done here : List Chunk) (r : Refusal) : Type 0 where
-  BelowKey : (IsFrom first k here → ⊥) → r ≡ Malformed node kind.Tree → AreOffsetsRefused node first k l rest done here r
-  AboveKey : (IsBelow rest l here → ⊥) → r ≡ Malformed node kind.Tree → AreOffsetsRefused node first k l rest done here r
-  OffsetsDisordered : (AreAscending (done ++ here) → ⊥) → r ≡ Malformed node kind.Tree → AreOffsetsRefused node first k l rest done here r
+pub data AreOffsetsRefused (node : ℕ) (first : Bool) (k l : List ℕ) (rest : List ℕ) (done here : List Chunk)
+    (r : Refusal) : Type 0 where
+  BelowKey : (IsFrom first k here → ⊥) → r ≡ Malformed node kind.Tree
+      → AreOffsetsRefused node first k l rest done here r
+  AboveKey : (IsBelow rest l here → ⊥) → r ≡ Malformed node kind.Tree
+      → AreOffsetsRefused node first k l rest done here r
+  OffsetsDisordered : (AreAscending (done ++ here) → ⊥) → r ≡ Malformed node kind.Tree
+      → AreOffsetsRefused node first k l rest done here r
 
-abbrev pub AreChunksRefused : (node : ℕ) → Under → RefusedChunks → Bool → List ChunkKey → List ℕ → (done : List Chunk) → List Block → Refusal → Type 0
+abbrev pub AreChunksRefused : (node : ℕ) → Under → RefusedChunks → Bool → List ChunkKey → List ℕ → (done : List Chunk)
+    → List Block → Refusal → Type 0
 AreChunksRefused node Child RefusedChild first keys [] done met r = ⊥
 AreChunksRefused node Child RefusedChild first [] (a ∷ rest) done met r = ⊥
 AreChunksRefused node Child RefusedChild first (k ∷ []) (a ∷ rest) done met r = ⊥
 AreChunksRefused node Child RefusedChild first (k ∷ l ∷ ks) (a ∷ rest) done met r =
     RefusedChild met k a r
     ⊎ ((here : List Chunk) × (own : List Block) × Child k a here own
-    × (AreOffsetsRefused node first k.offset l.offset rest done here r ⊎ AreChunksRefused node Child RefusedChild false (l ∷ ks) rest (done ++ here) (met ++ own) r))
+    × (AreOffsetsRefused node first k.offset l.offset rest done here r
+    ⊎ AreChunksRefused node Child RefusedChild false (l ∷ ks) rest (done ++ here) (met ++ own) r))
 
-pub data IsChunkNodeRefused (b : Array) (e : Bounds) (k rank level : ℕ) (Child : Under) (RefusedChild : ℕ → RefusedChunks) (met : List Block) (at : ℕ) (r : Refusal) : Type 0 where
-  NodeBlock : IsBlockRefused e met (record { start = at; len = chunk_node_len k rank }) kind.Tree r → IsChunkNodeRefused b e k rank level Child RefusedChild met at r
-  NoNode : ((n : ChunkNode) → SpellsChunkNode k rank n (bytes_of b at (chunk_node_len k rank)) → n.level ≡ level → ⊥) → r ≡ Malformed at kind.Tree
+pub data IsChunkNodeRefused (b : Array) (e : Bounds) (k rank level : ℕ) (Child : Under) (RefusedChild : ℕ
+    → RefusedChunks) (met : List Block) (at : ℕ) (r : Refusal) : Type 0 where
+  NodeBlock : IsBlockRefused e met (record { start = at; len = chunk_node_len k rank }) kind.Tree r
+      → IsChunkNodeRefused b e k rank level Child RefusedChild met at r
+  NoNode : ((n : ChunkNode) → SpellsChunkNode k rank n (bytes_of b at (chunk_node_len k rank)) → n.level ≡ level → ⊥)
+      → r ≡ Malformed at kind.Tree
       → IsChunkNodeRefused b e k rank level Child RefusedChild met at r
   InChildren : (n : ChunkNode) → SpellsChunkNode k rank n (bytes_of b at (chunk_node_len k rank))
-      → AreChunksRefused at Child (RefusedChild at) true n.keys n.children [] (met ++ record { start = at; len = chunk_node_len k rank } ∷ []) r
+      → AreChunksRefused at Child (RefusedChild at) true n.keys n.children []
+      (met ++ record { start = at; len = chunk_node_len k rank } ∷ []) r
       → IsChunkNodeRefused b e k rank level Child RefusedChild met at r
 
 -- a chunk index of this level is refused
 abbrev pub IsChunkIndexRefused : Array → Bounds → ℕ → ℕ → List ℕ → (level : ℕ) → List Block → ℕ → Refusal → Type 0
-IsChunkIndexRefused b e k rank sizes zero = IsChunkNodeRefused b e k rank 0 (IsStored rank sizes) (λ node. IsChunkRefused e rank sizes node)
+IsChunkIndexRefused b e k rank sizes zero = IsChunkNodeRefused b e k rank 0 (IsStored rank sizes)
+    (λ node. IsChunkRefused e rank sizes node)
 IsChunkIndexRefused b e k rank sizes (suc level) =
-    IsChunkNodeRefused b e k rank (suc level) (λ key. IsIndex b k rank sizes level) (λ node met key. IsChunkIndexRefused b e k rank sizes level met)
+    IsChunkNodeRefused b e k rank (suc level) (λ key. IsIndex b k rank sizes level)
+    (λ node met key. IsChunkIndexRefused b e k rank sizes level met)
 
 abbrev pub chunk_level : Array → ℕ → ℕ → ℕ → ℕ
 chunk_level b k rank tree = (chunk_node_of rank (bytes_of b tree (chunk_node_len k rank))).level
 
 -- the one block of a dataset, or its chunk index, is refused
-pub data IsStorageRefused (b : Array) (e : Bounds) (k : ℕ) (i : DataInfo) (met : List Block) (r : Refusal) : Type 0 where
-  RawBlock : (at len : ℕ) → i.layout ≡ layout.Contiguous at len → at ≢ undefined → IsPlacedRefused e met at (product i.shape.dims * size_of i.elem) kind.Raw r
+pub data IsStorageRefused (b : Array) (e : Bounds) (k : ℕ) (i : DataInfo) (met : List Block)
+    (r : Refusal) : Type 0 where
+  RawBlock : (at len : ℕ) → i.layout ≡ layout.Contiguous at len → at ≢ undefined
+      → IsPlacedRefused e met at (product i.shape.dims * size_of i.elem) kind.Raw r
       → IsStorageRefused b e k i met r
   InIndex : (tree : ℕ) (sizes : List ℕ) → i.layout ≡ layout.Chunked tree sizes → IsTrue (is_read i tree)
-      → IsChunkIndexRefused b e k (length i.shape.dims) sizes (chunk_level b k (length i.shape.dims) tree) met tree r → IsStorageRefused b e k i met r
+      → IsChunkIndexRefused b e k (length i.shape.dims) sizes (chunk_level b k (length i.shape.dims) tree) met tree r
+      → IsStorageRefused b e k i met r

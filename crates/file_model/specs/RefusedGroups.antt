@@ -26,18 +26,25 @@ RefusedUnder = List Block → ℕ → Refusal → Type 0
 abbrev pub HasNoText : List ℕ → ℕ → Type 0
 HasNoText segment at = (text : List ℕ) → HasText segment at text → ⊥
 
--- The symbol table node is refused: as a block, by an entry whose name or value isn't in the segment, or by two names out
--- of order.
-pub data IsLeafRefused (b : Array) (e : Bounds) (ks : Ks) (segment : List ℕ) (heap : ℕ) (met : List Block) (at : ℕ) (r : Refusal) : Type 0 where
-  LeafBlock : IsBlockRefused e met (record { start = at; len = snod_len ks.leaf }) kind.Snod r → IsLeafRefused b e ks segment heap met at r
-  NoLeaf : ((entries : List SnodEntry) → SpellsSnod ks.leaf entries (bytes_of b at (snod_len ks.leaf)) → ⊥) → r ≡ Malformed at kind.Snod
+-- The symbol table node is refused: as a block, by an entry whose name or value isn't in the segment, or by two names
+-- out of order.
+pub data IsLeafRefused (b : Array) (e : Bounds) (ks : Ks) (segment : List ℕ) (heap : ℕ) (met : List Block) (at : ℕ)
+    (r : Refusal) : Type 0 where
+  LeafBlock : IsBlockRefused e met (record { start = at; len = snod_len ks.leaf }) kind.Snod r
       → IsLeafRefused b e ks segment heap met at r
-  NoName : (entries : List SnodEntry) (x : SnodEntry) → SpellsSnod ks.leaf entries (bytes_of b at (snod_len ks.leaf)) → Contains entries x
+  NoLeaf : ((entries : List SnodEntry) → SpellsSnod ks.leaf entries (bytes_of b at (snod_len ks.leaf)) → ⊥)
+      → r ≡ Malformed at kind.Snod
+      → IsLeafRefused b e ks segment heap met at r
+  NoName : (entries : List SnodEntry) (x : SnodEntry) → SpellsSnod ks.leaf entries (bytes_of b at (snod_len ks.leaf))
+      → Contains entries x
       → HasNoText segment x.name_at → r ≡ Malformed heap kind.Heap → IsLeafRefused b e ks segment heap met at r
-  NoValue : (entries : List SnodEntry) (x : SnodEntry) → SpellsSnod ks.leaf entries (bytes_of b at (snod_len ks.leaf)) → Contains entries x → x.cache ≡ 2
+  NoValue : (entries : List SnodEntry) (x : SnodEntry) → SpellsSnod ks.leaf entries (bytes_of b at (snod_len ks.leaf))
+      → Contains entries x → x.cache ≡ 2
       → HasNoText segment (soft_value_at x) → r ≡ Malformed heap kind.Heap → IsLeafRefused b e ks segment heap met at r
-  NamesDisordered : (before later : List SnodEntry) (x y : SnodEntry) (m n : Name) → SpellsSnod ks.leaf (before ++ x ∷ y ∷ later) (bytes_of b at (snod_len ks.leaf))
-      → HasText segment x.name_at m → HasText segment y.name_at n → name_lt m n ≡ false → r ≡ Malformed at kind.Snod → IsLeafRefused b e ks segment heap met at r
+  NamesDisordered : (before later : List SnodEntry) (x y : SnodEntry) (m n : Name)
+      → SpellsSnod ks.leaf (before ++ x ∷ y ∷ later) (bytes_of b at (snod_len ks.leaf))
+      → HasText segment x.name_at m → HasText segment y.name_at n → name_lt m n ≡ false → r ≡ Malformed at kind.Snod
+      → IsLeafRefused b e ks segment heap met at r
 
 -- the names of links
 abbrev pub names_of : List Found → List Name
@@ -46,35 +53,46 @@ names_of = map (λ f. f.name)
 -- The keys on both sides of a child that was read are refused, for the links under it, and those under the children
 -- before it: a key's text isn't in the segment, a name isn't between the keys, or the names don't ascend.
 pub data IsKeyRefused (segment : List ℕ) (heap node k l : ℕ) (done here : List Found) (r : Refusal) : Type 0 where
-  NoKey : HasNoText segment k ⊎ HasNoText segment l → r ≡ Malformed heap kind.Heap → IsKeyRefused segment heap node k l done here r
-  NotBetween : (low high : Name) → HasText segment k low → HasText segment l high → (AreBetween low high here → ⊥) → r ≡ Malformed node kind.Tree
+  NoKey : HasNoText segment k ⊎ HasNoText segment l → r ≡ Malformed heap kind.Heap
       → IsKeyRefused segment heap node k l done here r
-  LinksDisordered : (AreOrdered (names_of (done ++ here)) → ⊥) → r ≡ Malformed node kind.Tree → IsKeyRefused segment heap node k l done here r
+  NotBetween : (low high : Name) → HasText segment k low → HasText segment l high → (AreBetween low high here → ⊥)
+      → r ≡ Malformed node kind.Tree
+      → IsKeyRefused segment heap node k l done here r
+  LinksDisordered : (AreOrdered (names_of (done ++ here)) → ⊥) → r ≡ Malformed node kind.Tree
+      → IsKeyRefused segment heap node k l done here r
 
 -- a child is refused, or the keys beside it once all under it was read, or a later child
-abbrev pub AreChildrenRefused : List ℕ → (heap node : ℕ) → Under → RefusedUnder → List ℕ → List ℕ → (done : List Found) → List Block → Refusal → Type 0
+abbrev pub AreChildrenRefused : List ℕ → (heap node : ℕ) → Under → RefusedUnder → List ℕ → List ℕ → (done : List Found)
+    → List Block → Refusal → Type 0
 AreChildrenRefused segment heap node Child RefusedChild keys [] done met r = ⊥
 AreChildrenRefused segment heap node Child RefusedChild [] (c ∷ cs) done met r = ⊥
 AreChildrenRefused segment heap node Child RefusedChild (k ∷ []) (c ∷ cs) done met r = ⊥
 AreChildrenRefused segment heap node Child RefusedChild (k ∷ l ∷ ks) (c ∷ cs) done met r =
     RefusedChild met c r
     ⊎ ((here : List Found) × (own : List Block) × Child c here own
-    × (IsKeyRefused segment heap node k l done here r ⊎ AreChildrenRefused segment heap node Child RefusedChild (l ∷ ks) cs (done ++ here) (met ++ own) r))
+    × (IsKeyRefused segment heap node k l done here r
+    ⊎ AreChildrenRefused segment heap node Child RefusedChild (l ∷ ks) cs (done ++ here) (met ++ own) r))
 
 -- a node of this level is refused
-pub data IsNodeRefused (b : Array) (e : Bounds) (ks : Ks) (segment : List ℕ) (heap level : ℕ) (Child : Under) (RefusedChild : RefusedUnder) (met : List Block) (at : ℕ) (r : Refusal) : Type 0 where
-  NodeBlock : IsBlockRefused e met (record { start = at; len = group_node_len ks.internal }) kind.Tree r → IsNodeRefused b e ks segment heap level Child RefusedChild met at r
-  NoNode : ((n : GroupNode) → SpellsGroupNode ks.internal n (bytes_of b at (group_node_len ks.internal)) → n.level ≡ level → ⊥) → r ≡ Malformed at kind.Tree
+pub data IsNodeRefused (b : Array) (e : Bounds) (ks : Ks) (segment : List ℕ) (heap level : ℕ) (Child : Under)
+    (RefusedChild : RefusedUnder) (met : List Block) (at : ℕ) (r : Refusal) : Type 0 where
+  NodeBlock : IsBlockRefused e met (record { start = at; len = group_node_len ks.internal }) kind.Tree r
+      → IsNodeRefused b e ks segment heap level Child RefusedChild met at r
+  NoNode : ((n : GroupNode) → SpellsGroupNode ks.internal n (bytes_of b at (group_node_len ks.internal))
+      → n.level ≡ level → ⊥) → r ≡ Malformed at kind.Tree
       → IsNodeRefused b e ks segment heap level Child RefusedChild met at r
   InChildren : (n : GroupNode) → SpellsGroupNode ks.internal n (bytes_of b at (group_node_len ks.internal))
-      → AreChildrenRefused segment heap at Child RefusedChild n.keys n.children [] (met ++ record { start = at; len = group_node_len ks.internal } ∷ []) r
+      → AreChildrenRefused segment heap at Child RefusedChild n.keys n.children []
+      (met ++ record { start = at; len = group_node_len ks.internal } ∷ []) r
       → IsNodeRefused b e ks segment heap level Child RefusedChild met at r
 
 -- a group's B-tree of this level is refused
 abbrev pub IsIndexRefused : Array → Bounds → Ks → List ℕ → (heap level : ℕ) → RefusedUnder
-IsIndexRefused b e ks segment heap zero = IsNodeRefused b e ks segment heap 0 (IsLeaf b ks segment) (IsLeafRefused b e ks segment heap)
+IsIndexRefused b e ks segment heap zero = IsNodeRefused b e ks segment heap 0 (IsLeaf b ks segment)
+    (IsLeafRefused b e ks segment heap)
 IsIndexRefused b e ks segment heap (suc level) =
-    IsNodeRefused b e ks segment heap (suc level) (IsIndex b ks segment level) (IsIndexRefused b e ks segment heap level)
+    IsNodeRefused b e ks segment heap (suc level) (IsIndex b ks segment level)
+    (IsIndexRefused b e ks segment heap level)
 
 -- the level that the root node tells
 abbrev pub root_level : Array → Ks → ℕ → ℕ
@@ -84,12 +102,17 @@ abbrev pub heap_block : ℕ → Block
 heap_block heap = record { start = heap; len = 32 }
 
 -- a group's heap or B-tree is refused
-pub data IsTableRefused (b : Array) (e : Bounds) (ks : Ks) (met : List Block) (tree heap : ℕ) (r : Refusal) : Type 0 where
+pub data IsTableRefused (b : Array) (e : Bounds) (ks : Ks) (met : List Block) (tree heap : ℕ)
+    (r : Refusal) : Type 0 where
   HeapBlock : IsBlockRefused e met (heap_block heap) kind.Heap r → IsTableRefused b e ks met tree heap r
-  NoHeap : ((h : HeapHead) → SpellsHeap h (bytes_of b heap 32) → ⊥) → r ≡ Malformed heap kind.Heap → IsTableRefused b e ks met tree heap r
-  LargeHeap : (h : HeapHead) → SpellsHeap h (bytes_of b heap 32) → most_segment < h.len → r ≡ Unsupported what.Heap → IsTableRefused b e ks met tree heap r
-  SegmentBlock : (h : HeapHead) → SpellsHeap h (bytes_of b heap 32) → IsPlacedRefused e (met ++ heap_block heap ∷ []) h.segment_at h.len kind.Heap r
+  NoHeap : ((h : HeapHead) → SpellsHeap h (bytes_of b heap 32) → ⊥) → r ≡ Malformed heap kind.Heap
+      → IsTableRefused b e ks met tree heap r
+  LargeHeap : (h : HeapHead) → SpellsHeap h (bytes_of b heap 32) → most_segment < h.len → r ≡ Unsupported what.Heap
+      → IsTableRefused b e ks met tree heap r
+  SegmentBlock : (h : HeapHead) → SpellsHeap h (bytes_of b heap 32)
+      → IsPlacedRefused e (met ++ heap_block heap ∷ []) h.segment_at h.len kind.Heap r
       → IsTableRefused b e ks met tree heap r
   InNodes : (h : HeapHead) → SpellsHeap h (bytes_of b heap 32)
-      → IsIndexRefused b e ks (bytes_of b h.segment_at h.len) heap (root_level b ks tree) (met ++ heap_block heap ∷ placed h.segment_at h.len) tree r
+      → IsIndexRefused b e ks (bytes_of b h.segment_at h.len) heap (root_level b ks tree)
+      (met ++ heap_block heap ∷ placed h.segment_at h.len) tree r
       → IsTableRefused b e ks met tree heap r

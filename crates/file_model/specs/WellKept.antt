@@ -13,11 +13,12 @@ abbrev pub next_of : List ℕ → ℕ
 next_of [] = undefined
 next_of (at ∷ ats) = at
 
--- Each node of a level, from left to right, names the node before it and the one behind it, none at the ends. The sibling
--- addresses stand at 8 and 16 of a node of either kind.
+-- Each node of a level, from left to right, names the node before it and the one behind it, none at the ends. The
+-- sibling addresses stand at 8 and 16 of a node of either kind.
 abbrev pub AreSiblings : Array → ℕ → List ℕ → Type 0
 AreSiblings b before [] = Unit {0}
-AreSiblings b before (at ∷ ats) = (u64_at (bytes_of b at 24) 8 ≡ before) × (u64_at (bytes_of b at 24) 16 ≡ next_of ats) × AreSiblings b at ats
+AreSiblings b before (at ∷ ats) = (u64_at (bytes_of b at 24) 8 ≡ before) × (u64_at (bytes_of b at 24) 16 ≡ next_of ats)
+    × AreSiblings b at ats
 
 -- the children of nodes, from left to right
 abbrev pub group_children : Array → ℕ → List ℕ → List ℕ
@@ -34,11 +35,13 @@ BeginsEmpty b k (at ∷ ats) = slice_index (group_node_of (bytes_of b at (group_
 -- the nodes of a level and all below it
 abbrev pub IsKeptGroup : Array → ℕ → ℕ → List ℕ → Type 0
 IsKeptGroup b k zero ats = AreSiblings b undefined ats × BeginsEmpty b k ats
-IsKeptGroup b k (suc level) ats = AreSiblings b undefined ats × BeginsEmpty b k ats × IsKeptGroup b k level (group_children b k ats)
+IsKeptGroup b k (suc level) ats = AreSiblings b undefined ats × BeginsEmpty b k ats
+    × IsKeptGroup b k level (group_children b k ats)
 
 abbrev pub IsKeptIndex : Array → ℕ → ℕ → ℕ → List ℕ → Type 0
 IsKeptIndex b k rank zero ats = AreSiblings b undefined ats
-IsKeptIndex b k rank (suc level) ats = AreSiblings b undefined ats × IsKeptIndex b k rank level (chunk_children b k rank ats)
+IsKeptIndex b k rank (suc level) ats = AreSiblings b undefined ats
+    × IsKeptIndex b k rank level (chunk_children b k rank ats)
 
 -- A group's B-tree with this root and level is well kept: at offset 0 of its segment stands the empty name.
 pub record IsWellKept (b : Array) (k level root : ℕ) (segment : List ℕ) : Type 0 where

@@ -1,7 +1,9 @@
 //! Laws of what the bytes of a file hold. Each function does nothing: its clause is the law.
 
-ghost use Rattle.file_model.specs.Bites.{DisorderInNode, DisorderInGroup, NameBelowKey, NameAboveKey, KeyOutside, SharedByte, PastEnd, OwnContinuation, LooseChunk, HugeSpace, PlaceInChunk};
-ghost use Rattle.file_model.specs.Laws.{OneObject, OneFull, OneTree, FrameLaw, EmptyFile, EditLaw, FileFrame, InsertLaw, RemoveLaw, ReplaceLaw, PlainEdit, RiseLaw, NotRefused};
+ghost use Rattle.file_model.specs.Bites.{DisorderInNode, DisorderInGroup, NameBelowKey, NameAboveKey, KeyOutside};
+ghost use Rattle.file_model.specs.Bites.{SharedByte, PastEnd, OwnContinuation, LooseChunk, HugeSpace, PlaceInChunk};
+ghost use Rattle.file_model.specs.Laws.{OneObject, OneFull, OneTree, FrameLaw, EmptyFile, EditLaw, FileFrame};
+ghost use Rattle.file_model.specs.Laws.{InsertLaw, RemoveLaw, ReplaceLaw, PlainEdit, RiseLaw, NotRefused};
 
 /// What a link leads to is one object: of one kind, with one list of links or elements, and one list of blocks.
 pub fn one_object()

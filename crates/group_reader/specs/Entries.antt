@@ -23,6 +23,9 @@ IsEntryRefused segment heap e r = IsTextRefused segment heap e.name_at r ⊎ IsV
 
 -- an entry is refused, or the names of two beside one another
 pub data AreEntriesRefused (segment : List ℕ) (heap node : ℕ) (entries : List SnodEntry) (r : Refusal) : Type 0 where
-  OneEntry : (e : SnodEntry) → Contains entries e → IsEntryRefused segment heap e r → AreEntriesRefused segment heap node entries r
-  Disordered : (before later : List SnodEntry) (x y : SnodEntry) (m n : Name) → entries ≡ before ++ x ∷ y ∷ later → HasText segment x.name_at m
-      → HasText segment y.name_at n → name_lt m n ≡ false → r ≡ Malformed node kind.Snod → AreEntriesRefused segment heap node entries r
+  OneEntry : (e : SnodEntry) → Contains entries e → IsEntryRefused segment heap e r
+      → AreEntriesRefused segment heap node entries r
+  Disordered : (before later : List SnodEntry) (x y : SnodEntry) (m n : Name) → entries ≡ before ++ x ∷ y ∷ later
+      → HasText segment x.name_at m
+      → HasText segment y.name_at n → name_lt m n ≡ false → r ≡ Malformed node kind.Snod
+      → AreEntriesRefused segment heap node entries r

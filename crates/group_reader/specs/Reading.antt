@@ -26,12 +26,15 @@ ks_of leaf internal chunk = record { leaf = leaf; internal = internal; chunk = c
 
 -- The blocks of a part were taken into the catalogue, after those that were met before.
 abbrev pub Takes : {V : Type 0} → (V → SpaceView) → (old new : Blocks V) → (List Block → Type 0) → Type 0
-Takes view old new Part = (met : List Block) → Keeps view old met → (bs : List Block) × Part bs × Keeps view new (met ++ bs)
+Takes view old new Part = (met : List Block) → Keeps view old met → (bs : List Block) × Part bs
+    × Keeps view new (met ++ bs)
 
 -- A stop is one of these refusals, after the blocks that were met before, or none of a file.
-abbrev pub Refuses : {V : Type 0} → (V → SpaceView) → Blocks V → (Bounds → List Block → Refusal → Type 0) → TreeStop → Type 0
+abbrev pub Refuses : {V : Type 0} → (V → SpaceView) → Blocks V → (Bounds → List Block → Refusal → Type 0) → TreeStop
+    → Type 0
 Refuses view old IsRefused stop =
-    (met : List Block) (own : Option (List ℕ)) → Keeps view old met → IfSome (refusal_of stop) (IsRefused (bounds_of (view (space_of old)) own) met)
+    (met : List Block) (own : Option (List ℕ)) → Keeps view old met
+    → IfSome (refusal_of stop) (IsRefused (bounds_of (view (space_of old)) own) met)
 
 -- ---- nodes
 
@@ -54,7 +57,8 @@ IsNodeAt b k at node = SpellsGroupNode k node (bytes_of b at (group_node_len k))
 
 -- a node is refused whatever its level and its children: as a block, or since its bytes spell none
 abbrev pub IsHeadRefused : Array → Bounds → (k : ℕ) → List Block → (at : ℕ) → Refusal → Type 0
-IsHeadRefused b e k met at r = IsBlockRefused e met (node_block k at) kind.Tree r ⊎ (((n : GroupNode) → IsNodeAt b k at n → ⊥) × (r ≡ Malformed at kind.Tree))
+IsHeadRefused b e k met at r = IsBlockRefused e met (node_block k at) kind.Tree r
+    ⊎ (((n : GroupNode) → IsNodeAt b k at n → ⊥) × (r ≡ Malformed at kind.Tree))
 
 -- The links under a child lie between the keys at both sides of it, and come after those under the children before it.
 pub record FitKeys (segment : List ℕ) (k l : ℕ) (done here : List Found) : Type 0 where
@@ -66,7 +70,8 @@ pub record FitKeys (segment : List ℕ) (k l : ℕ) (done here : List Found) : T
   pub ordered : AreOrdered (names_of (done ++ here))
 
 -- All under a root node of some level, with the names in order.
-pub record AreIndexed (b : Array) (ks : Ks) (segment : List ℕ) (tree : ℕ) (fs : List Found) (bs : List Block) : Type 0 where
+pub record AreIndexed (b : Array) (ks : Ks) (segment : List ℕ) (tree : ℕ) (fs : List Found)
+    (bs : List Block) : Type 0 where
   pub level : ℕ
   pub index : IsIndex b ks segment level tree fs bs
   pub ordered : AreOrdered (names_of fs)

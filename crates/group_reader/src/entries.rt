@@ -1,4 +1,5 @@
-ghost use Rattle.std.specs.Prelude.{◌≡◌, ◌≤◌, ◌++◌, ◌∷◌, ◌↔◌, [], IsTrue, All, IfOk, IfErr, IfSome, OnOk, IsErrOf, length};
+ghost use Rattle.std.specs.Prelude.{◌≡◌, ◌≤◌, ◌++◌, ◌∷◌, ◌↔◌, [], IsTrue, All, IfOk, IfErr, IfSome, OnOk, IsErrOf};
+ghost use Rattle.std.specs.Prelude.{length};
 ghost use Rattle.node_codec.specs.Snod.{IsCache};
 ghost use Rattle.file_model.specs.Groups.{HasText, IsTarget, AreLinks};
 ghost use Rattle.file_model.specs.RefusedGroups.{names_of};
@@ -105,7 +106,8 @@ pub(crate) fn push_entries(
 ) -> Result<(), TreeStop>
     requires { All IsCache entries.now }
     ensures found { OnOk result (Adds links.old.items links.new.items (AreLinks segment.now entries.now)) }
-    ensures refused { IfErr result (λ stop. IfSome (refusal_of stop) (AreEntriesRefused segment.now heap_at node_at entries.now)) }
+    ensures refused { IfErr result (λ stop. IfSome (refusal_of stop)
+        (AreEntriesRefused segment.now heap_at node_at entries.now)) }
     ensures grows { OnOk result (length links.old.items ≤ length links.new.items) }
     ensures no_fault { IsErrOf result TreeStop.Failed → ⊥ }
 {

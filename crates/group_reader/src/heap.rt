@@ -28,15 +28,18 @@ pub(crate) fn read_head<V: Space>(
 ) -> Result<HeapHead, TreeStop>
     requires stands { V.Stands (space_of blocks.old) }
     requires listed { (met : List Block) × Keeps V.view blocks.old met }
-    ensures found { IsTrue V.tells → IfOk result (λ head. SpellsHeap head (bytes_of (array_of V.view blocks.old) heap_at 32)) }
+    ensures found { IsTrue V.tells → IfOk result
+        (λ head. SpellsHeap head (bytes_of (array_of V.view blocks.old) heap_at 32)) }
     ensures small { IfOk result (λ head. head.len ≤ most_segment) }
-    ensures taken { OnOk result ((met : List Block) → Keeps V.view blocks.old met → Keeps V.view blocks.new (met ++ heap_block heap_at ∷ [])) }
+    ensures taken { OnOk result ((met : List Block) → Keeps V.view blocks.old met
+        → Keeps V.view blocks.new (met ++ heap_block heap_at ∷ [])) }
     ensures refused { IsTrue V.tells → IfErr result (Refuses V.view blocks.old (λ e met r. (ks : Ks) (tree : ℕ) →
         IsTableRefused (array_of V.view blocks.old) e ks met tree heap_at r)) }
     ensures alike { V.Alike (space_of blocks.old) (space_of blocks.new) }
     ensures stands { (IsErrOf result TreeStop.Failed → ⊥) → V.Stands (space_of blocks.new) }
     ensures later { V.faults (space_of blocks.old) ≤ V.faults (space_of blocks.new) }
-    ensures cause { IsErrOf result TreeStop.Failed → Rose (V.faults (space_of blocks.old)) (V.faults (space_of blocks.new)) }
+    ensures cause { IsErrOf result TreeStop.Failed
+        → Rose (V.faults (space_of blocks.old)) (V.faults (space_of blocks.new)) }
 {
     let bytes = match take(alloc, blocks, heap_at, 32, BlockKind::Heap) {
         Ok(bytes) => bytes,
@@ -63,13 +66,17 @@ pub(crate) fn read_segment<V: Space>(
     requires stands { V.Stands (space_of blocks.old) }
     requires listed { (met : List Block) × Keeps V.view blocks.old met }
     requires small { head.len ≤ most_segment }
-    ensures bytes { IsTrue V.tells → IfOk result (λ segment. segment.items ≡ bytes_of (array_of V.view blocks.old) head.segment_at head.len) }
-    ensures taken { OnOk result ((met : List Block) → Keeps V.view blocks.old met → Keeps V.view blocks.new (met ++ placed head.segment_at head.len)) }
-    ensures refused { IfErr result (Refuses V.view blocks.old (λ e met. IsPlacedRefused e met head.segment_at head.len BlockKind.Heap)) }
+    ensures bytes { IsTrue V.tells → IfOk result
+        (λ segment. segment.items ≡ bytes_of (array_of V.view blocks.old) head.segment_at head.len) }
+    ensures taken { OnOk result ((met : List Block) → Keeps V.view blocks.old met
+        → Keeps V.view blocks.new (met ++ placed head.segment_at head.len)) }
+    ensures refused { IfErr result (Refuses V.view blocks.old
+        (λ e met. IsPlacedRefused e met head.segment_at head.len BlockKind.Heap)) }
     ensures alike { V.Alike (space_of blocks.old) (space_of blocks.new) }
     ensures stands { (IsErrOf result TreeStop.Failed → ⊥) → V.Stands (space_of blocks.new) }
     ensures later { V.faults (space_of blocks.old) ≤ V.faults (space_of blocks.new) }
-    ensures cause { IsErrOf result TreeStop.Failed → Rose (V.faults (space_of blocks.old)) (V.faults (space_of blocks.new)) }
+    ensures cause { IsErrOf result TreeStop.Failed
+        → Rose (V.faults (space_of blocks.old)) (V.faults (space_of blocks.new)) }
 {
     match adopt_placed(blocks, head.segment_at, head.len, BlockKind::Heap) {
         Ok(()) => {}

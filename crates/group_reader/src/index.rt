@@ -30,17 +30,21 @@ fn read_index<V: Space>(
 ) -> Result<(), TreeStop>
     requires stands { V.Stands (space_of blocks.old) }
     requires listed { (met : List Block) × Keeps V.view blocks.old met }
-    ensures found { IsTrue V.tells → (chunk : ℕ) → OnOk result (Adds links.old.items links.new.items (λ fs. Takes V.view blocks.old blocks.new
-        (IsIndex (array_of V.view blocks.old) (ks_of table.now.leaf_k table.now.internal_k chunk) table.now.segment.now level at fs))) }
+    ensures found { IsTrue V.tells → (chunk : ℕ)
+        → OnOk result (Adds links.old.items links.new.items (λ fs. Takes V.view blocks.old blocks.new
+        (IsIndex (array_of V.view blocks.old)
+        (ks_of table.now.leaf_k table.now.internal_k chunk) table.now.segment.now level at fs))) }
     ensures refused { IsTrue V.tells → (chunk : ℕ) → IfErr result (Refuses V.view blocks.old (λ e met.
-        IsIndexRefused (array_of V.view blocks.old) e (ks_of table.now.leaf_k table.now.internal_k chunk) table.now.segment.now table.now.heap_at level met at)) }
+        IsIndexRefused (array_of V.view blocks.old) e
+        (ks_of table.now.leaf_k table.now.internal_k chunk) table.now.segment.now table.now.heap_at level met at)) }
     ensures grows { OnOk result (length links.old.items ≤ length links.new.items) }
     ensures ordered { OnOk result (AddsOrdered links.old.items links.new.items) }
     ensures alike { V.Alike (space_of blocks.old) (space_of blocks.new) }
     ensures stands { (IsErrOf result TreeStop.Failed → ⊥) → V.Stands (space_of blocks.new) }
     ensures listed { OnOk result ((met : List Block) × Keeps V.view blocks.new met) }
     ensures later { V.faults (space_of blocks.old) ≤ V.faults (space_of blocks.new) }
-    ensures cause { IsErrOf result TreeStop.Failed → Rose (V.faults (space_of blocks.old)) (V.faults (space_of blocks.new)) }
+    ensures cause { IsErrOf result TreeStop.Failed
+        → Rose (V.faults (space_of blocks.old)) (V.faults (space_of blocks.new)) }
 {
     let node = match read_node(alloc, blocks, table.internal_k, at) {
         Ok(node) => node,
@@ -68,17 +72,21 @@ fn read_child<V: Space>(
 ) -> Result<(), TreeStop>
     requires stands { V.Stands (space_of blocks.old) }
     requires listed { (met : List Block) × Keeps V.view blocks.old met }
-    ensures found { IsTrue V.tells → (chunk : ℕ) → OnOk result (Adds links.old.items links.new.items (λ fs. Takes V.view blocks.old blocks.new
-        (IsBelow (array_of V.view blocks.old) (ks_of table.now.leaf_k table.now.internal_k chunk) table.now.segment.now level at fs))) }
+    ensures found { IsTrue V.tells → (chunk : ℕ)
+        → OnOk result (Adds links.old.items links.new.items (λ fs. Takes V.view blocks.old blocks.new
+        (IsBelow (array_of V.view blocks.old)
+        (ks_of table.now.leaf_k table.now.internal_k chunk) table.now.segment.now level at fs))) }
     ensures refused { IsTrue V.tells → (chunk : ℕ) → IfErr result (Refuses V.view blocks.old (λ e met.
-        IsBelowRefused (array_of V.view blocks.old) e (ks_of table.now.leaf_k table.now.internal_k chunk) table.now.segment.now table.now.heap_at level met at)) }
+        IsBelowRefused (array_of V.view blocks.old) e
+        (ks_of table.now.leaf_k table.now.internal_k chunk) table.now.segment.now table.now.heap_at level met at)) }
     ensures grows { OnOk result (length links.old.items ≤ length links.new.items) }
     ensures ordered { OnOk result (AddsOrdered links.old.items links.new.items) }
     ensures alike { V.Alike (space_of blocks.old) (space_of blocks.new) }
     ensures stands { (IsErrOf result TreeStop.Failed → ⊥) → V.Stands (space_of blocks.new) }
     ensures listed { OnOk result ((met : List Block) × Keeps V.view blocks.new met) }
     ensures later { V.faults (space_of blocks.old) ≤ V.faults (space_of blocks.new) }
-    ensures cause { IsErrOf result TreeStop.Failed → Rose (V.faults (space_of blocks.old)) (V.faults (space_of blocks.new)) }
+    ensures cause { IsErrOf result TreeStop.Failed
+        → Rose (V.faults (space_of blocks.old)) (V.faults (space_of blocks.new)) }
 {
     if level == 0 {
         read_leaf(alloc, blocks, table, at, links)
@@ -102,12 +110,17 @@ pub(crate) fn read_children<V: Space>(
     requires stands { V.Stands (space_of blocks.old) }
     requires listed { (met : List Block) × Keeps V.view blocks.old met }
     requires one_more { length keys.now ≡ length children.now + 1 }
-    ensures found { IsTrue V.tells → (chunk : ℕ) → OnOk result (Adds links.old.items links.new.items (λ fs. Takes V.view blocks.old blocks.new
-        (AreChildren table.now.segment.now (IsBelow (array_of V.view blocks.old) (ks_of table.now.leaf_k table.now.internal_k chunk) table.now.segment.now level)
+    ensures found { IsTrue V.tells → (chunk : ℕ)
+        → OnOk result (Adds links.old.items links.new.items (λ fs. Takes V.view blocks.old blocks.new
+        (AreChildren table.now.segment.now (IsBelow (array_of V.view blocks.old)
+        (ks_of table.now.leaf_k table.now.internal_k chunk) table.now.segment.now level)
         keys.now children.now fs))) }
     ensures refused { IsTrue V.tells → (chunk : ℕ) → IfErr result (Refuses V.view blocks.old (λ e met.
-        AreChildrenRefused table.now.segment.now table.now.heap_at node_at (IsBelow (array_of V.view blocks.old) (ks_of table.now.leaf_k table.now.internal_k chunk) table.now.segment.now level)
-        (IsBelowRefused (array_of V.view blocks.old) e (ks_of table.now.leaf_k table.now.internal_k chunk) table.now.segment.now table.now.heap_at level)
+        AreChildrenRefused table.now.segment.now table.now.heap_at node_at
+        (IsBelow (array_of V.view blocks.old)
+        (ks_of table.now.leaf_k table.now.internal_k chunk) table.now.segment.now level)
+        (IsBelowRefused (array_of V.view blocks.old) e
+        (ks_of table.now.leaf_k table.now.internal_k chunk) table.now.segment.now table.now.heap_at level)
         keys.now children.now [] met)) }
     ensures grows { OnOk result (length links.old.items ≤ length links.new.items) }
     ensures ordered { OnOk result (AddsOrdered links.old.items links.new.items) }
@@ -115,7 +128,8 @@ pub(crate) fn read_children<V: Space>(
     ensures stands { (IsErrOf result TreeStop.Failed → ⊥) → V.Stands (space_of blocks.new) }
     ensures listed { OnOk result ((met : List Block) × Keeps V.view blocks.new met) }
     ensures later { V.faults (space_of blocks.old) ≤ V.faults (space_of blocks.new) }
-    ensures cause { IsErrOf result TreeStop.Failed → Rose (V.faults (space_of blocks.old)) (V.faults (space_of blocks.new)) }
+    ensures cause { IsErrOf result TreeStop.Failed
+        → Rose (V.faults (space_of blocks.old)) (V.faults (space_of blocks.new)) }
 {
     let begin = links.len();
     for (i, child) in children.iter().enumerate() {

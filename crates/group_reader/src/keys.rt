@@ -25,7 +25,9 @@ pub(crate) fn check_keys(
     ensures found { AreOrdered (names_of (links_of done.now)) → AreOrdered (names_of (links_of here.now))
         → OnOk result (FitKeys table.now.segment.now low_at high_at (links_of done.now) (links_of here.now)) }
     ensures refused { AreOrdered (names_of (links_of done.now)) → AreOrdered (names_of (links_of here.now))
-        → IfErr result (λ stop. IfSome (refusal_of stop) (IsKeyRefused table.now.segment.now table.now.heap_at node_at low_at high_at (links_of done.now) (links_of here.now))) }
+        → IfErr result (λ stop. IfSome (refusal_of stop)
+        (IsKeyRefused table.now.segment.now table.now.heap_at node_at low_at high_at (links_of done.now)
+        (links_of here.now))) }
     ensures no_fault { IsErrOf result TreeStop.Failed → ⊥ }
 {
     let (Some(low), Some(high)) = (

@@ -27,17 +27,21 @@ pub(crate) fn read_leaf<V: Space>(
 ) -> Result<(), TreeStop>
     requires stands { V.Stands (space_of blocks.old) }
     requires listed { (met : List Block) × Keeps V.view blocks.old met }
-    ensures found { IsTrue V.tells → (chunk : ℕ) → OnOk result (Adds links.old.items links.new.items (λ fs. Takes V.view blocks.old blocks.new
-        (IsLeaf (array_of V.view blocks.old) (ks_of table.now.leaf_k table.now.internal_k chunk) table.now.segment.now at fs))) }
+    ensures found { IsTrue V.tells → (chunk : ℕ)
+        → OnOk result (Adds links.old.items links.new.items (λ fs. Takes V.view blocks.old blocks.new
+        (IsLeaf (array_of V.view blocks.old) (ks_of table.now.leaf_k table.now.internal_k chunk) table.now.segment.now
+        at fs))) }
     ensures refused { IsTrue V.tells → (chunk : ℕ) → IfErr result (Refuses V.view blocks.old (λ e met.
-        IsLeafRefused (array_of V.view blocks.old) e (ks_of table.now.leaf_k table.now.internal_k chunk) table.now.segment.now table.now.heap_at met at)) }
+        IsLeafRefused (array_of V.view blocks.old) e
+        (ks_of table.now.leaf_k table.now.internal_k chunk) table.now.segment.now table.now.heap_at met at)) }
     ensures grows { OnOk result (length links.old.items ≤ length links.new.items) }
     ensures ordered { OnOk result (AddsOrdered links.old.items links.new.items) }
     ensures alike { V.Alike (space_of blocks.old) (space_of blocks.new) }
     ensures stands { (IsErrOf result TreeStop.Failed → ⊥) → V.Stands (space_of blocks.new) }
     ensures listed { OnOk result ((met : List Block) × Keeps V.view blocks.new met) }
     ensures later { V.faults (space_of blocks.old) ≤ V.faults (space_of blocks.new) }
-    ensures cause { IsErrOf result TreeStop.Failed → Rose (V.faults (space_of blocks.old)) (V.faults (space_of blocks.new)) }
+    ensures cause { IsErrOf result TreeStop.Failed
+        → Rose (V.faults (space_of blocks.old)) (V.faults (space_of blocks.new)) }
 {
     let len = snod_size(table.leaf_k);
     let bytes = match take(alloc, blocks, at, len, BlockKind::Snod) {

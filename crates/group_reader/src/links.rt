@@ -29,16 +29,20 @@ fn read_tree<V: Space>(
     requires stands { V.Stands (space_of blocks.old) }
     requires listed { (met : List Block) × Keeps V.view blocks.old met }
     ensures found { IsTrue V.tells → (chunk : ℕ) → IfOk result (λ links. Takes V.view blocks.old blocks.new
-        (AreIndexed (array_of V.view blocks.old) (ks_of table.now.leaf_k table.now.internal_k chunk) table.now.segment.now tree_at (links_of links.items))) }
+        (AreIndexed (array_of V.view blocks.old)
+        (ks_of table.now.leaf_k table.now.internal_k chunk) table.now.segment.now tree_at (links_of links.items))) }
     ensures refused { IsTrue V.tells → (chunk : ℕ) → IfErr result (Refuses V.view blocks.old (λ e met.
-        IsIndexRefused (array_of V.view blocks.old) e (ks_of table.now.leaf_k table.now.internal_k chunk) table.now.segment.now table.now.heap_at
-        (root_level (array_of V.view blocks.old) (ks_of table.now.leaf_k table.now.internal_k chunk) tree_at) met tree_at)) }
+        IsIndexRefused (array_of V.view blocks.old) e
+        (ks_of table.now.leaf_k table.now.internal_k chunk) table.now.segment.now table.now.heap_at
+        (root_level (array_of V.view blocks.old)
+        (ks_of table.now.leaf_k table.now.internal_k chunk) tree_at) met tree_at)) }
     ensures ordered { IfOk result (λ links. AreOrdered (names_of (links_of links.items))) }
     ensures alike { V.Alike (space_of blocks.old) (space_of blocks.new) }
     ensures stands { (IsErrOf result TreeStop.Failed → ⊥) → V.Stands (space_of blocks.new) }
     ensures listed { OnOk result ((met : List Block) × Keeps V.view blocks.new met) }
     ensures later { V.faults (space_of blocks.old) ≤ V.faults (space_of blocks.new) }
-    ensures cause { IsErrOf result TreeStop.Failed → Rose (V.faults (space_of blocks.old)) (V.faults (space_of blocks.new)) }
+    ensures cause { IsErrOf result TreeStop.Failed
+        → Rose (V.faults (space_of blocks.old)) (V.faults (space_of blocks.new)) }
 {
     let node = match read_node(alloc, blocks, table.internal_k, tree_at) {
         Ok(node) => node,
@@ -59,9 +63,10 @@ fn read_tree<V: Space>(
 ///
 /// `leaf_k` and `internal_k` are the superblock's. The heap is refused first, then the nodes, each with all under it
 /// from left to right: `Malformed` where bytes don't spell the kind of block that is wanted there or a block leaves its
-/// region, where a name, a key or a soft link's value isn't in the heap, or where names don't ascend or don't lie between
-/// the keys beside them; `LinkedTwice` and `Overlap` where a block shares bytes with one that was met before; `TooMany`
-/// past the last block that a catalogue takes; and `Unsupported` where the heap's segment has more than 16,777,216 bytes.
+/// region, where a name, a key or a soft link's value isn't in the heap, or where names don't ascend or don't lie
+/// between the keys beside them; `LinkedTwice` and `Overlap` where a block shares bytes with one that was met before;
+/// `TooMany` past the last block that a catalogue takes; and `Unsupported` where the heap's segment has more than
+/// 16,777,216 bytes.
 pub fn read_links<V: Space>(
     alloc: Global,
     blocks: &mut Blocks<V>,
@@ -73,7 +78,8 @@ pub fn read_links<V: Space>(
     requires stands { V.Stands (space_of blocks.old) }
     requires listed { (met : List Block) × Keeps V.view blocks.old met }
     ensures found { IsTrue V.tells → IfOk result (λ links. (chunk : ℕ) → Takes V.view blocks.old blocks.new
-        (HasLinks (array_of V.view blocks.old) (ks_of leaf_k internal_k chunk) tree_at heap_at (links_of links.items))) }
+        (HasLinks (array_of V.view blocks.old) (ks_of leaf_k internal_k chunk) tree_at heap_at
+        (links_of links.items))) }
     ensures small { IsTrue V.tells → OnOk result (IsSmallHeap (array_of V.view blocks.old) heap_at) }
     ensures refused { IsTrue V.tells → IfErr result (λ stop. (chunk : ℕ) → Refuses V.view blocks.old (λ e met.
         IsTableRefused (array_of V.view blocks.old) e (ks_of leaf_k internal_k chunk) met tree_at heap_at) stop) }
@@ -82,7 +88,8 @@ pub fn read_links<V: Space>(
     ensures stands { (IsErrOf result TreeStop.Failed → ⊥) → V.Stands (space_of blocks.new) }
     ensures listed { OnOk result ((met : List Block) × Keeps V.view blocks.new met) }
     ensures later { V.faults (space_of blocks.old) ≤ V.faults (space_of blocks.new) }
-    ensures cause { IsErrOf result TreeStop.Failed → Rose (V.faults (space_of blocks.old)) (V.faults (space_of blocks.new)) }
+    ensures cause { IsErrOf result TreeStop.Failed
+        → Rose (V.faults (space_of blocks.old)) (V.faults (space_of blocks.new)) }
 {
     let head = match read_head(alloc, blocks, heap_at) {
         Ok(head) => head,

@@ -15,7 +15,8 @@ pub(crate) fn comes_before(a: &[u8], b: &[u8]) -> bool
 
 /// Whether the names, which ascend, lie above `low`, and at most at `high`.
 pub(crate) fn lie_between(low: &[u8], high: &[u8], links: &[FoundLink]) -> bool
-    ensures { AreOrdered (names_of (links_of links.now)) → IsTrue result ↔ AreBetween low.now high.now (links_of links.now) }
+    ensures { AreOrdered (names_of (links_of links.now))
+        → IsTrue result ↔ AreBetween low.now high.now (links_of links.now) }
 {
     match (links.first(), links.last()) {
         (Some(first), Some(last)) => {

@@ -23,12 +23,15 @@ pub(crate) fn read_node<V: Space>(
     requires listed { (met : List Block) × Keeps V.view blocks.old met }
     ensures found { IsTrue V.tells → IfOk result (IsNodeAt (array_of V.view blocks.old) internal_k at) }
     ensures fits { IfOk result (FitsGroupNode internal_k) }
-    ensures taken { OnOk result ((met : List Block) → Keeps V.view blocks.old met → Keeps V.view blocks.new (met ++ node_block internal_k at ∷ [])) }
-    ensures refused { IsTrue V.tells → IfErr result (Refuses V.view blocks.old (λ e met. IsHeadRefused (array_of V.view blocks.old) e internal_k met at)) }
+    ensures taken { OnOk result ((met : List Block) → Keeps V.view blocks.old met
+        → Keeps V.view blocks.new (met ++ node_block internal_k at ∷ [])) }
+    ensures refused { IsTrue V.tells → IfErr result
+        (Refuses V.view blocks.old (λ e met. IsHeadRefused (array_of V.view blocks.old) e internal_k met at)) }
     ensures alike { V.Alike (space_of blocks.old) (space_of blocks.new) }
     ensures stands { (IsErrOf result TreeStop.Failed → ⊥) → V.Stands (space_of blocks.new) }
     ensures later { V.faults (space_of blocks.old) ≤ V.faults (space_of blocks.new) }
-    ensures cause { IsErrOf result TreeStop.Failed → Rose (V.faults (space_of blocks.old)) (V.faults (space_of blocks.new)) }
+    ensures cause { IsErrOf result TreeStop.Failed
+        → Rose (V.faults (space_of blocks.old)) (V.faults (space_of blocks.new)) }
 {
     let len = group_node_size(internal_k);
     let bytes = match take(alloc, blocks, at, len, BlockKind::Tree) {

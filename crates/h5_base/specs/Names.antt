@@ -7,7 +7,8 @@ is_between low high b = nat_le low b && nat_le b high
 
 -- a letter, a digit, `.`, `_`, `-` or `%`
 abbrev pub is_name_byte : ℕ → Bool
-is_name_byte b = is_between 48 57 b || is_between 65 90 b || is_between 97 122 b || b == 46 || b == 95 || b == 45 || b == 37
+is_name_byte b = is_between 48 57 b || is_between 65 90 b || is_between 97 122 b || b == 46 || b == 95 || b == 45 || b
+    == 37
 
 -- 1 to 200 such bytes, the first of them not `.`
 pub record IsName (text : List ℕ) : Type 0 where

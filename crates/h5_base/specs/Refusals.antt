@@ -7,7 +7,8 @@ use Rattle.h5_base.specs.declared.kinds.BlockKind.TheVariants as kind
 use Rattle.h5_base.specs.declared.kinds.What.{What}
 use Rattle.h5_base.specs.declared.kinds.What.TheVariants as what
 use Rattle.h5_base.specs.declared.refusal.Refusal.{Refusal}
-use Rattle.h5_base.specs.declared.refusal.Refusal.TheVariants.{Exists, Absent, Malformed, Unsupported, Truncated, LinkedTwice, Overlap, TooDeep, TooMany}
+use Rattle.h5_base.specs.declared.refusal.Refusal.TheVariants.{Exists, Absent, Malformed, Unsupported, Truncated}
+use Rattle.h5_base.specs.declared.refusal.Refusal.TheVariants.{LinkedTwice, Overlap, TooDeep, TooMany}
 
 abbrev pub kind_word : BlockKind → List ℕ
 kind_word kind.Super = codes "super"
@@ -34,7 +35,8 @@ line_of Exists = codes "refused: exists\n"
 line_of Absent = codes "refused: absent\n"
 line_of (Malformed at kind) = codes "refused: malformed " ++ decimal at ++ codes " " ++ kind_word kind ++ codes "\n"
 line_of (Unsupported what) = codes "refused: unsupported " ++ what_word what ++ codes "\n"
-line_of (Truncated actual stored) = codes "refused: truncated " ++ decimal actual ++ codes " " ++ decimal stored ++ codes "\n"
+line_of (Truncated actual stored) = codes "refused: truncated " ++ decimal actual ++ codes " " ++ decimal stored ++
+    codes "\n"
 line_of (LinkedTwice at) = codes "refused: linked-twice " ++ decimal at ++ codes "\n"
 line_of (Overlap at) = codes "refused: overlap " ++ decimal at ++ codes "\n"
 line_of TooDeep = codes "refused: too-deep\n"

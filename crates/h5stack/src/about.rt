@@ -27,7 +27,8 @@ docs/h5stack.1 is the manual page: man -l docs/h5stack.1
 /// What `--version` prints.
 const VERSION: &str = "h5stack 0.1\n";
 
-/// The text about the program that the words ask for, where they are `--help` or `--version` alone. No action has such a name.
+/// The text about the program that the words ask for, where they are `--help` or `--version` alone. No action has such
+/// a name.
 pub fn about(words: &Vec<String>) -> Option<&'static str> {
     if words.len() != 1 {
         return None;

@@ -9,12 +9,12 @@ use real_ports::{DirStore, StdSink, StdSource, SysClock};
 use std::fs::File;
 use std::process::ExitCode;
 
-/// Ends with the status of `run`; with 8 where there is no memory for the words. `--help` and `--version`, one word alone, are its
-/// own: it prints them and ends with 0, or with 6 where that fails.
+/// Ends with the status of `run`; with 8 where there is no memory for the words. `--help` and `--version`, one word
+/// alone, are its own: it prints them and ends with 0, or with 6 where that fails.
 fn main(rt: HostRuntime) -> ExitCode {
     let alloc = rt.alloc();
-    // A stream that is closed at the start leaves its number to the next file that is opened, which what is printed would
-    // then overwrite. So the folder takes the numbers that are free: reading and writing it fail.
+    // A stream that is closed at the start leaves its number to the next file that is opened, which what is printed
+    // would then overwrite. So the folder takes the numbers that are free: reading and writing it fail.
     let _streams = [
         File::open(&rt, "."),
         File::open(&rt, "."),

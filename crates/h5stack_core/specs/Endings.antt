@@ -6,7 +6,8 @@ use Rattle.h5_base.specs.declared.refusal.Stop.{Stop}
 use Rattle.h5_base.specs.declared.refusal.Stop.TheVariants as stop
 use Rattle.h5stack_core.specs.Words.{usage_line}
 use Rattle.h5stack_core.specs.declared.ending.Ending.{Ending}
-use Rattle.h5stack_core.specs.declared.ending.Ending.TheVariants.{Done, SomeNot, Words, Store, Refused, Input, Output, Memory, ScriptMemory, Limit}
+use Rattle.h5stack_core.specs.declared.ending.Ending.TheVariants.{Done, SomeNot, Words, Store, Refused, Input, Output}
+use Rattle.h5stack_core.specs.declared.ending.Ending.TheVariants.{Memory, ScriptMemory, Limit}
 
 -- an exit status, and what is written on standard error with it
 pub record Told : Type 0 where

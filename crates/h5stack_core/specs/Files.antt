@@ -24,4 +24,5 @@ pub record Opens (file : List ℕ) (t : Plain) : Type 0 where
 -- Why a file isn't opened: when it is mounted, or else when its tree is read.
 pub data IsRefusedFile (file : List ℕ) (reason : Refusal) : Type 0 where
   AtMount : IsRefused (array_in file) (end_in file) reason → IsRefusedFile file reason
-  InTree : IsAdmitted (array_in file) (end_in file) → IsRefusedTree (array_in file) (one_region (end_in file)) reason → IsRefusedFile file reason
+  InTree : IsAdmitted (array_in file) (end_in file) → IsRefusedTree (array_in file) (one_region (end_in file)) reason
+      → IsRefusedFile file reason

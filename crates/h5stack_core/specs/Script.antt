@@ -22,7 +22,8 @@ use Rattle.h5stack_core.specs.Stores.{Telling, Moment, SameFiles}
 use Rattle.h5_base.specs.declared.refusal.Refusal.{Refusal}
 use Rattle.h5_base.specs.declared.refusal.Refusal.TheVariants as why
 use Rattle.h5stack_core.specs.declared.ending.Ending.{Ending}
-use Rattle.h5stack_core.specs.declared.ending.Ending.TheVariants.{Done, SomeNot, Words, Store, Refused, Input, Output, Memory, ScriptMemory, Limit}
+use Rattle.h5stack_core.specs.declared.ending.Ending.TheVariants.{Done, SomeNot, Words, Store, Refused, Input, Output}
+use Rattle.h5stack_core.specs.declared.ending.Ending.TheVariants.{Memory, ScriptMemory, Limit}
 
 -- ---- files that are opened, and files that are refused
 
@@ -61,7 +62,8 @@ IsRefusedTree b e reason = (r : of_file.Refusal) × IsFileRefused b e r × (reas
 
 -- ---- what is read and printed
 
--- The script's bytes, those that weren't taken in the end, and what stands on the output before and after, each where it is told.
+-- The script's bytes, those that weren't taken in the end, and what stands on the output before and after, each where
+-- it is told.
 pub record Transcript : Type 0 where
   -- the source tells the script, the output what is written
   pub reads : Bool
@@ -100,7 +102,8 @@ pub record CutShort (Opens : Plain → Type 0) (x : Transcript) : Type 0 where
 abbrev pub IsFull : Transcript → Type 0
 IsFull x = length x.script ≡ 2 ^ 32 + length x.left
 
--- What a run reads and prints, by how it ends. `Opens` says which tree is opened, `IsRefused` which refusals the file shows.
+-- What a run reads and prints, by how it ends. `Opens` says which tree is opened, `IsRefused` which refusals the file
+-- shows.
 abbrev pub Answers : (Opens : Plain → Type 0) (IsRefused : Refusal → Type 0) → Transcript → Ending → Type 0
 Answers Opens IsRefused x Done = Ran Opens x Done
 Answers Opens IsRefused x SomeNot = Ran Opens x SomeNot
@@ -145,9 +148,10 @@ IfClosed Limit Lasts = Lasts
 
 -- ---- the run over a file
 
--- No file changes, and no stop leaves of another file what it couldn't leave before. Where the run closed the file, over an honest
--- store each stop leaves its bytes.
-pub record Runs (tells : Telling) (file : List ℕ) (before after : Moment) (Opens : Plain → Type 0) (IsRefused : Refusal → Type 0) (x : Transcript) (ending : Ending) : Type 0 where
+-- No file changes, and no stop leaves of another file what it couldn't leave before. Where the run closed the file,
+-- over an honest store each stop leaves its bytes.
+pub record Runs (tells : Telling) (file : List ℕ) (before after : Moment) (Opens : Plain → Type 0)
+    (IsRefused : Refusal → Type 0) (x : Transcript) (ending : Ending) : Type 0 where
   pub same : SameFiles tells.files before.view after.view
   pub images : IsTrue tells.images → GoesOver (λ q. q ≡ file) before.leaves after.leaves before.past after.past
   pub lasts : IsTrue tells.files → IsTrue tells.images → IsTrue before.view.honest

@@ -1,6 +1,8 @@
 -- What the words ask for, and the first fault of those that are not admitted.
 -- Cited by `run` and by the functions that read words.
-use Rattle.std.specs.Prelude.{ℕ, Bool, false, ◌&&◌, ◌||◌, not, ◌==◌, nat_le, List, [], ◌∷◌, ◌++◌, length, drop, map, slice_index, Option, Some, None, Result, Ok, Err, if◌then◌else◌, codes, string_bytes, String}
+use Rattle.std.specs.Prelude.{ℕ, Bool, false, ◌&&◌, ◌||◌, not, ◌==◌, nat_le, List, [], ◌∷◌, ◌++◌, length, drop, map}
+use Rattle.std.specs.Prelude.{slice_index, Option, Some, None, Result, Ok, Err, if◌then◌else◌, codes, string_bytes}
+use Rattle.std.specs.Prelude.{String}
 use Rattle.std.specs.List.{starts_with, list_all}
 use Rattle.std.specs.Bool.{nat_eq}
 use Rattle.std.specs.Str.{bytes_eq}
@@ -14,11 +16,13 @@ use Rattle.h5stack_core.specs.declared.asked.Asked.TheVariants.{Create, Run}
 -- a letter, a digit, `.`, `_` or `-`
 abbrev pub is_file_byte : ℕ → Bool
 is_file_byte b =
-    (nat_le 48 b && nat_le b 57) || (nat_le 65 b && nat_le b 90) || (nat_le 97 b && nat_le b 122) || b == 46 || b == 95 || b == 45
+    (nat_le 48 b && nat_le b 57) || (nat_le 65 b && nat_le b 90) ||
+    (nat_le 97 b && nat_le b 122) || b == 46 || b == 95 || b == 45
 
 -- 1 to 100 of these, the first not `.`
 abbrev pub is_file_name : List ℕ → Bool
-is_file_name text = not (length text == 0) && (nat_le (length text) 100 && (not (slice_index text 0 == 46) && list_all is_file_byte text))
+is_file_name text = not (length text == 0) &&
+    (nat_le (length text) 100 && (not (slice_index text 0 == 46) && list_all is_file_byte text))
 
 abbrev pub is_create : List ℕ → Bool
 is_create word = bytes_eq word (codes "create")
@@ -41,8 +45,10 @@ is_onion word = starts_with nat_eq word (codes "onion=")
 -- the layers of an action that aren't built yet: only a run takes an onion
 abbrev pub is_later_layer : (runs : Bool) → List ℕ → Bool
 is_later_layer runs word =
-    (runs && is_onion word) || starts_with nat_eq word (codes "splitter=") || starts_with nat_eq word (codes "family=") || starts_with nat_eq word (codes "split=")
-    || starts_with nat_eq word (codes "multi=") || starts_with nat_eq word (codes "subfiling=") || starts_with nat_eq word (codes "ext=")
+    (runs && is_onion word) || starts_with nat_eq word (codes "splitter=") || starts_with nat_eq word
+    (codes "family=") || starts_with nat_eq word (codes "split=")
+    || starts_with nat_eq word (codes "multi=") || starts_with nat_eq word
+    (codes "subfiling=") || starts_with nat_eq word (codes "ext=")
 
 -- the file that a `plain` word names
 abbrev pub file_of : List ℕ → List ℕ
@@ -52,14 +58,17 @@ file_of word = drop 6 word
 unfoldable pub base_fault : (runs : Bool) → ℕ → List ℕ → Option WordFault
 base_fault runs k word =
     if is_plain word then (if is_file_name (file_of word) then None else Some (Name k))
-    else (if is_later_layer runs word then Some (NotBuilt k) else (if is_onion word then Some (Order k) else Some (Unknown k)))
+    else (if is_later_layer runs word then Some (NotBuilt k) else
+    (if is_onion word then Some (Order k) else Some (Unknown k)))
 
 -- and of a word behind the last
 unfoldable pub rest_fault : (runs : Bool) → ℕ → List ℕ → WordFault
-rest_fault runs k word = if is_later_layer runs word then NotBuilt k else (if is_plain word || is_onion word then Order k else Unknown k)
+rest_fault runs k word = if is_later_layer runs word then NotBuilt k else
+    (if is_plain word || is_onion word then Order k else Unknown k)
 
 unfoldable pub action_fault : List ℕ → Option WordFault
-action_fault word = if is_create word || is_run word then None else (if is_later_action word then Some (NotBuilt 0) else Some (Unknown 0))
+action_fault word = if is_create word || is_run word then None else
+    (if is_later_action word then Some (NotBuilt 0) else Some (Unknown 0))
 
 -- the first of two
 abbrev pub first_of_two : Option WordFault → Option WordFault → Option WordFault

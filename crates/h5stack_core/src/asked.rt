@@ -39,7 +39,8 @@ fn named_in(words: &Vec<String>) -> &[u8]
 #[tactic(auto, using(crate::proofs::WordsLemmas::asked_run, crate::proofs::WordsLemmas::asked_create, crate::proofs::WordsLemmas::asked_fault, crate::proofs::WordsLemmas::asked_none))]
 pub fn read_words(alloc: Global, words: &Vec<String>) -> Result<Asked, Ending>
     ensures asked { IfOk result (λ asked. asked_by (texts words.now.items) ≡ Ok asked) }
-    ensures first { IfErr result (λ ending. (fault : WordFault) → asked_by (texts words.now.items) ≡ Err fault → ending ≡ Ending.Words fault) }
+    ensures first { IfErr result (λ ending. (fault : WordFault) → asked_by (texts words.now.items) ≡ Err fault
+        → ending ≡ Ending.Words fault) }
     ensures fault { IfErr result (λ ending. (ending ≡ Ending.Memory)
         ⊎ ((fault : WordFault) × (ending ≡ Ending.Words fault) × (asked_by (texts words.now.items) ≡ Err fault))) }
 {

@@ -28,7 +28,8 @@ fn open_empty<S: Store>(store: &mut S, name: &Name) -> Result<FileId, CreateStop
     ensures goes { Goes S.tells_files (λ _. ⊥) (S.view store.old) (S.view store.new) }
     ensures id { IfOk result (λ id. (S.view store.new).names id.n ≡ name.now) }
     ensures empty { IsTrue S.tells_files → OnOk result ((S.view store.old).files name.now ≡ []) }
-    ensures exists { IsTrue S.tells_files → IsErrOf result CreateStop.Exists → 0 < length ((S.view store.old).files name.now) }
+    ensures exists { IsTrue S.tells_files → IsErrOf result CreateStop.Exists
+        → 0 < length ((S.view store.old).files name.now) }
     ensures failed { IsErrOf result CreateStop.Failed → SomeRose (S.view store.old) (S.view store.new) }
 {
     let _text = name.as_slice();
@@ -49,7 +50,8 @@ fn write_empty<S: Store>(store: &mut S, id: FileId) -> Result<(), Failed>
     requires given { 0 < length ((S.view store.old).names id.n) }
     requires empty { IsTrue S.tells_files → (S.view store.old).files ((S.view store.old).names id.n) ≡ [] }
     ensures goes { Goes S.tells_files (λ q. q ≡ (S.view store.old).names id.n) (S.view store.old) (S.view store.new) }
-    ensures bytes { IsTrue S.tells_files → OnOk result ((S.view store.new).files ((S.view store.old).names id.n) ≡ empty_file) }
+    ensures bytes { IsTrue S.tells_files → OnOk result
+        ((S.view store.new).files ((S.view store.old).names id.n) ≡ empty_file) }
     ensures durable { IsTrue S.tells_images → IsTrue S.tells_files → IsTrue (S.view store.old).honest
         → OnOk result (RestsAt ((S.view store.old).names id.n) empty_file (S.leaves store.new)) }
     ensures failed { IsErr result → SomeRose (S.view store.old) (S.view store.new) }
@@ -67,10 +69,14 @@ pub fn create<S: Store>(store: &mut S, name: &Name) -> Result<(), CreateStop>
     ensures durable { IsTrue S.tells_images → IsTrue S.tells_files → IsTrue (S.view store.old).honest
         → OnOk result (RestsAt name.now empty_file (S.leaves store.new)) }
     ensures was_empty { IsTrue S.tells_files → OnOk result ((S.view store.old).files name.now ≡ []) }
-    ensures exists { IsTrue S.tells_files → IsErrOf result CreateStop.Exists → 0 < length ((S.view store.old).files name.now) }
-    ensures kept { IsTrue S.tells_files → 0 < length ((S.view store.old).files name.now) → (S.view store.new).files name.now ≡ (S.view store.old).files name.now }
-    ensures exists_same { IsErrOf result CreateStop.Exists → SameFiles S.tells_files (S.view store.old) (S.view store.new) }
-    ensures memory_same { IsErrOf result CreateStop.NoMemory → SameFiles S.tells_files (S.view store.old) (S.view store.new) }
+    ensures exists { IsTrue S.tells_files → IsErrOf result CreateStop.Exists
+        → 0 < length ((S.view store.old).files name.now) }
+    ensures kept { IsTrue S.tells_files → 0 < length ((S.view store.old).files name.now)
+        → (S.view store.new).files name.now ≡ (S.view store.old).files name.now }
+    ensures exists_same { IsErrOf result CreateStop.Exists
+        → SameFiles S.tells_files (S.view store.old) (S.view store.new) }
+    ensures memory_same { IsErrOf result CreateStop.NoMemory
+        → SameFiles S.tells_files (S.view store.old) (S.view store.new) }
     ensures failed { IsErrOf result CreateStop.Failed → SomeRose (S.view store.old) (S.view store.new) }
 {
     let _text = name.as_slice();

@@ -7,7 +7,8 @@ ghost use Rattle.object_tree.specs.Sound.{IsSoundTree};
 ghost use Rattle.tree_answers.specs.Shown.{IsTreeOf};
 ghost use Rattle.h5stack_core.specs.Endings.{IfNothingDone};
 ghost use Rattle.h5stack_core.specs.declared.words.WordFault.{WordFault};
-ghost use Rattle.h5stack_core.specs.Script.{HoldsWithin, IsRefusedTree, Answers, TreeAnswers, IfClosed, IsOfScript, unopened};
+ghost use Rattle.h5stack_core.specs.Script.{HoldsWithin, IsRefusedTree, Answers, TreeAnswers, IfClosed, IsOfScript};
+ghost use Rattle.h5stack_core.specs.Script.{unopened};
 
 use crate::ending::Ending;
 use block_space::Blocks;
@@ -94,7 +95,8 @@ fn close<V: Space>(space: &mut V, ending: Ending) -> Ending
     ensures array { IsTrue V.tells → (V.view space.new).array ≡ (V.view space.old).array }
     ensures ends { (V.view space.new).ends ≡ (V.view space.old).ends }
     ensures later { V.faults space.old ≤ V.faults space.new }
-    ensures fault { result ≡ Ending.Store → (ending ≡ Ending.Store) ⊎ Rose (V.faults space.old) (V.faults space.new) ⊎ Rose (V.copy_faults space.old) (V.copy_faults space.new) }
+    ensures fault { result ≡ Ending.Store → (ending ≡ Ending.Store) ⊎ Rose (V.faults space.old) (V.faults space.new)
+        ⊎ Rose (V.copy_faults space.old) (V.copy_faults space.new) }
 {
     match space.settle() {
         Ok(()) => ending,
@@ -102,8 +104,8 @@ fn close<V: Space>(space: &mut V, ending: Ending) -> Ending
     }
 }
 
-/// Runs a script over a space: opens the tree of its file, answers each line, and makes the file last. Where the tree isn't
-/// opened, the script isn't read, and nothing is printed.
+/// Runs a script over a space: opens the tree of its file, answers each line, and makes the file last. Where the tree
+/// isn't opened, the script isn't read, and nothing is printed.
 pub fn look<V: Space, I: Source, O: Sink>(
     alloc: Global,
     space: V,
@@ -124,7 +126,8 @@ pub fn look<V: Space, I: Source, O: Sink>(
         }) result.ending }
     ensures unread { IfNothingDone result.ending (input.new ≡ input.old) }
     ensures silent { IfNothingDone result.ending (out.new ≡ out.old) }
-    ensures store_fault { result.ending ≡ Ending.Store → Rose (V.faults space) (V.faults result.space) ⊎ ((before : ℕ) × Rose before (V.copy_faults result.space)) }
+    ensures store_fault { result.ending ≡ Ending.Store → Rose (V.faults space) (V.faults result.space)
+        ⊎ ((before : ℕ) × Rose before (V.copy_faults result.space)) }
     ensures input_fault { result.ending ≡ Ending.Input → Rose (I.faults input.old) (I.faults input.new) }
     ensures output_fault { result.ending ≡ Ending.Output → Rose (O.faults out.old) (O.faults out.new) }
     ensures goes { V.GoesOn space result.space }

@@ -35,9 +35,12 @@ fn perform<S: Store, I: Source, O: Sink>(
     input: &mut I,
     out: &mut O,
 ) -> Performed<S>
-    ensures goes { Goes S.tells_files (IsNamed (asked_by (texts words.now.items))) (S.view store) (S.view result.store) }
-    ensures words { (fault : WordFault) → result.ending ≡ Ending.Words fault → asked_by (texts words.now.items) ≡ Err fault }
-    ensures words_first { (fault : WordFault) → asked_by (texts words.now.items) ≡ Err fault → result.ending ≡ Ending.Words fault }
+    ensures goes { Goes S.tells_files (IsNamed (asked_by (texts words.now.items))) (S.view store)
+        (S.view result.store) }
+    ensures words { (fault : WordFault) → result.ending ≡ Ending.Words fault
+        → asked_by (texts words.now.items) ≡ Err fault }
+    ensures words_first { (fault : WordFault) → asked_by (texts words.now.items) ≡ Err fault
+        → result.ending ≡ Ending.Words fault }
     ensures store_fault { result.ending ≡ Ending.Store → SomeRose (S.view store) (S.view result.store) }
     ensures input_fault { result.ending ≡ Ending.Input → Rose (I.faults input.old) (I.faults input.new) }
     ensures output_fault { result.ending ≡ Ending.Output → Rose (O.faults out.old) (O.faults out.new) }
@@ -72,11 +75,11 @@ fn perform<S: Store, I: Source, O: Sink>(
 
 /// What the program does: the words of its command line, over a store, a source, two sinks and a clock.
 ///
-/// `create plain=F` writes the empty HDF5 file into F, which has to be empty, makes it last and prints `created`.
-/// `run plain=F` opens the HDF5 file F, reads the whole tree of its objects and answers each line of the script that the
-/// source gives; F is made to last, and stays as it is. How each way to end is told, by an exit status and a line on standard
-/// error, is the table `told`; what each action leaves and prints by then are the files of its name (`Create`, `Script`). A fault
-/// of standard error changes nothing.
+/// `create plain=F` writes the empty HDF5 file into F, which has to be empty, makes it last and prints `created`. `run
+/// plain=F` opens the HDF5 file F, reads the whole tree of its objects and answers each line of the script that the
+/// source gives; F is made to last, and stays as it is. How each way to end is told, by an exit status and a line on
+/// standard error, is the table `told`; what each action leaves and prints by then are the files of its name (`Create`,
+/// `Script`). A fault of standard error changes nothing.
 pub fn run<S: Store, I: Source, O: Sink, E: Sink, C: Clock>(
     alloc: Global,
     words: &Vec<String>,
@@ -92,7 +95,8 @@ pub fn run<S: Store, I: Source, O: Sink, E: Sink, C: Clock>(
         → E.written err.new ≡ E.written err.old ++ (told result.ending).line }
 
     // The words: their first fault is told, exactly where they have one, or there is no memory to tell it.
-    ensures words { (fault : WordFault) → result.ending ≡ Ending.Words fault → asked_by (texts words.now.items) ≡ Err fault }
+    ensures words { (fault : WordFault) → result.ending ≡ Ending.Words fault
+        → asked_by (texts words.now.items) ≡ Err fault }
     ensures words_first { (fault : WordFault) → asked_by (texts words.now.items) ≡ Err fault
         → (result.ending ≡ Ending.Words fault) ⊎ (result.ending ≡ Ending.Memory) }
 
@@ -101,9 +105,11 @@ pub fn run<S: Store, I: Source, O: Sink, E: Sink, C: Clock>(
     ensures input_fault { result.ending ≡ Ending.Input → Rose (I.faults input.old) (I.faults input.new) }
     ensures output_fault { result.ending ≡ Ending.Output → Rose (O.faults out.old) (O.faults out.new) }
 
-    // What no ending may do: at most the file that the words name changes, no count falls, and ids stay. Where words or files are
-    // refused, or there was no memory before anything was done, no file changes, nothing is printed, and the script isn't read.
-    ensures goes { Goes S.tells_files (IsNamed (asked_by (texts words.now.items))) (S.view store) (S.view result.store) }
+    // What no ending may do: at most the file that the words name changes, no count falls, and ids stay. Where words or
+    // files are refused, or there was no memory before anything was done, no file changes, nothing is printed, and the
+    // script isn't read.
+    ensures goes { Goes S.tells_files (IsNamed (asked_by (texts words.now.items))) (S.view store)
+        (S.view result.store) }
     ensures same { IfNothingDone result.ending (SameFiles S.tells_files (S.view store) (S.view result.store)) }
     ensures silent { IfNothingDone result.ending (out.new ≡ out.old) }
     ensures unread { IfNothingDone result.ending (input.new ≡ input.old) }
@@ -129,13 +135,16 @@ pub fn run<S: Store, I: Source, O: Sink, E: Sink, C: Clock>(
           new = O.written out.new;
         }) result.ending }
 
-    // Completeness: where no count rose, what can be done is done, and a file that is to be refused is, or there is no memory.
+    // Completeness: where no count rose, what can be done is done, and a file that is to be refused is, or there is no
+    // memory.
     ensures complete { (asked : Asked) → asked_by (texts words.now.items) ≡ Ok asked → IsTrue S.tells_files
         → CanBeDone asked (S.view store).files I.tells (I.left input.old)
-        → IsCalm (S.view store) (S.view result.store) (I.faults input.old) (I.faults input.new) (O.faults out.old) (O.faults out.new)
+        → IsCalm (S.view store) (S.view result.store) (I.faults input.old) (I.faults input.new) (O.faults out.old)
+        (O.faults out.new)
         → EndsDone result.ending }
     ensures complete_refused { (asked : Asked) → asked_by (texts words.now.items) ≡ Ok asked → IsTrue S.tells_files
-        → IsToBeRefused asked (S.view store).files → (SomeRose (S.view store) (S.view result.store) → ⊥) → EndsRefused result.ending }
+        → IsToBeRefused asked (S.view store).files → (SomeRose (S.view store) (S.view result.store) → ⊥)
+        → EndsRefused result.ending }
 {
     let performed = perform(alloc, words, store, input, out);
     let ending = tell(alloc, performed.ending, err);

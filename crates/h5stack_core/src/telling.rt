@@ -37,8 +37,8 @@ fn fixed_line(ending: Ending) -> &'static [u8]
     }
 }
 
-/// Tells on standard error how the program ended. Where there is no memory for the line of a refusal, that is told in its
-/// place, and is how the program ended. A fault there changes nothing.
+/// Tells on standard error how the program ended. Where there is no memory for the line of a refusal, that is told in
+/// its place, and is how the program ended. A fault there changes nothing.
 pub fn tell<E: Sink>(alloc: Global, ending: Ending, err: &mut E) -> Ending
     ensures ended { (result ≡ ending) ⊎ (IsRefusal ending × (result ≡ Ending.Memory)) }
     ensures told { IsTrue E.tells → (Rose (E.faults err.old) (E.faults err.new) → ⊥)

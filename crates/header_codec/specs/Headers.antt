@@ -1,5 +1,6 @@
 -- The prefix of an object header of version 1 and where its messages lie, by the HDF5 File Format Specification 3.0,
--- IV.A.1.a and IV.A.2. Cited by `read_prefix`, `read_message` and `write_header`, and by what says which objects a file has.
+-- IV.A.1.a and IV.A.2. Cited by `read_prefix`, `read_message` and `write_header`, and by what says which objects a file
+-- has.
 use Rattle.std.specs.Prelude.{◌≡◌, ℕ, ◌+◌, ◌%◌, ◌≤◌, List, length, slice_index}
 use Rattle.h5_base.specs.Fields.{u16_at, u32_at}
 use Rattle.header_codec.specs.declared.types.Prefix.{Prefix}

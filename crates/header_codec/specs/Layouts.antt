@@ -1,5 +1,5 @@
--- Which bytes are a data layout, by the HDF5 File Format Specification 3.0, IV.A.2.i ("Data Layout Message", version 3).
--- Cited by `read_layout` and `write_header`, and by what says where a dataset's elements are.
+-- Which bytes are a data layout, by the HDF5 File Format Specification 3.0, IV.A.2.i ("Data Layout Message", version
+-- 3). Cited by `read_layout` and `write_header`, and by what says where a dataset's elements are.
 use Rattle.std.specs.Prelude.{◌≡◌, ℕ, zero, suc, ◌+◌, ◌*◌, ◌^◌, ◌≤◌, ◌<◌, ◌⊎◌, List, [], ◌∷◌, length, slice_index, All}
 use Rattle.h5_base.specs.Fields.{u32_at, u64_at}
 use Rattle.header_codec.specs.declared.types.Layout.{Layout}
@@ -49,7 +49,8 @@ pub record IsChunked (b : List ℕ) : Type 0 where
 -- The bytes begin with this layout.
 abbrev pub SpellsLayout : Layout → List ℕ → Type 0
 SpellsLayout l b =
-    (IsContiguous b × (l ≡ Contiguous (u64_at b 2) (u64_at b 10))) ⊎ (IsChunked b × (l ≡ Chunked (u64_at b 3) (sizes_of b)))
+    (IsContiguous b × (l ≡ Contiguous (u64_at b 2) (u64_at b 10)))
+    ⊎ (IsChunked b × (l ≡ Chunked (u64_at b 3) (sizes_of b)))
 
 -- A dataset of this rank whose elements have so many bytes can be stored so.
 abbrev pub IsOfShape : (rank size : ℕ) → Layout → Type 0

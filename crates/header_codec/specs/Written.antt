@@ -49,7 +49,8 @@ pub record Part : Type 0 where
 abbrev pub Stand : List ℕ → ℕ → List Part → Type 0
 Stand b at [] = at ≡ length b
 Stand b at (p ∷ ps) =
-    SpellsMessage (record { kind = p.kind; flags = 0; at = at + 8; len = length p.body }) b at × (bytes_at b (at + 8) (length p.body) ≡ p.body) × Stand b (at + 8 + length p.body) ps
+    SpellsMessage (record { kind = p.kind; flags = 0; at = at + 8; len = length p.body }) b at
+    × (bytes_at b (at + 8) (length p.body) ≡ p.body) × Stand b (at + 8 + length p.body) ps
 
 -- a symbol table message: B-tree address 8, heap address 8 (IV.A.2.r)
 pub record SpellsTable (tree heap : ℕ) (b : List ℕ) : Type 0 where
@@ -61,7 +62,8 @@ pub record SpellsTable (tree heap : ℕ) (b : List ℕ) : Type 0 where
 abbrev pub Tell : NewHeader → List Part → Type 0
 Tell (Group tree heap) (t ∷ []) = (t.kind ≡ 0x11) × SpellsTable tree heap t.body
 Tell (Dataset space elem fill layout) (s ∷ e ∷ f ∷ l ∷ []) =
-    (s.kind ≡ 1) × SpellsShape space s.body × (e.kind ≡ 3) × SpellsType elem e.body × (f.kind ≡ 5) × SpellsFill fill f.body × (l.kind ≡ 8) × SpellsLayout layout l.body
+    (s.kind ≡ 1) × SpellsShape space s.body × (e.kind ≡ 3) × SpellsType elem e.body × (f.kind ≡ 5)
+    × SpellsFill fill f.body × (l.kind ≡ 8) × SpellsLayout layout l.body
 Tell _ _ = ⊥
 
 -- The bytes are the whole header of an object that one link names, its messages these.
@@ -93,7 +95,8 @@ abbrev pub message_bytes : Part → List ℕ
 message_bytes p = to_le_bytes w16 p.kind ++ to_le_bytes w16 (length p.body) ++ replicate 4 0 ++ p.body
 
 abbrev pub prefix_bytes : (count size : ℕ) → List ℕ
-prefix_bytes count size = (1 ∷ 0 ∷ []) ++ to_le_bytes w16 count ++ to_le_bytes w32 1 ++ to_le_bytes w32 size ++ replicate 4 0
+prefix_bytes count size = (1 ∷ 0 ∷ []) ++ to_le_bytes w16 count ++ to_le_bytes w32 1 ++ to_le_bytes w32 size ++
+    replicate 4 0
 
 abbrev pub messages_bytes : List Part → List ℕ
 messages_bytes parts = flat_map message_bytes parts
@@ -116,13 +119,16 @@ fill_bytes time value = (2 ∷ time ∷ 2 ∷ 1 ∷ []) ++ to_le_bytes w32 (leng
 
 abbrev pub layout_bytes : Layout → List ℕ
 layout_bytes (Contiguous at len) = (3 ∷ 1 ∷ []) ++ to_le_bytes w64 at ++ to_le_bytes w64 len
-layout_bytes (Chunked tree sizes) = (3 ∷ 2 ∷ length sizes ∷ []) ++ to_le_bytes w64 tree ++ flat_map (to_le_bytes w32) sizes
+layout_bytes (Chunked tree sizes) = (3 ∷ 2 ∷ length sizes ∷ []) ++ to_le_bytes w64 tree ++ flat_map
+    (to_le_bytes w32) sizes
 
 -- the messages that are written
 abbrev pub parts_of : NewHeader → List Part
 parts_of (Group tree heap) = part 0x11 (table_bytes tree heap) ∷ []
 parts_of (Dataset space elem fill layout) =
-    part 1 (shape_bytes space) ∷ part 3 (type_bytes elem) ∷ part 5 (fill_bytes (alloc_time layout) (value_bytes fill)) ∷ part 8 (layout_bytes layout) ∷ []
+    part 1 (shape_bytes space) ∷ part 3 (type_bytes elem) ∷ part 5
+    (fill_bytes (alloc_time layout) (value_bytes fill)) ∷ part 8 (layout_bytes layout) ∷ []
 
 abbrev pub header_bytes : NewHeader → List ℕ
-header_bytes h = prefix_bytes (length (parts_of h)) (length (messages_bytes (parts_of h))) ++ messages_bytes (parts_of h)
+header_bytes h = prefix_bytes (length (parts_of h)) (length (messages_bytes (parts_of h))) ++ messages_bytes
+    (parts_of h)

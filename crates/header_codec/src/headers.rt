@@ -24,8 +24,8 @@ pub fn read_prefix(bytes: &[u8]) -> Option<Prefix>
     })
 }
 
-/// Reads where the message lies that begins at `at`. None where fewer than 8 bytes follow, or the size of its data is no
-/// multiple of 8 or passes the end. (HDF5 File Format Specification 3.0, IV.A.2.)
+/// Reads where the message lies that begins at `at`. None where fewer than 8 bytes follow, or the size of its data is
+/// no multiple of 8 or passes the end. (HDF5 File Format Specification 3.0, IV.A.2.)
 pub fn read_message(bytes: &[u8], at: usize) -> Option<Message>
     // What is read is spelled.
     ensures found { IfSome result (λ m. SpellsMessage m bytes.now at) }

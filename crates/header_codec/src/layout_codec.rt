@@ -1,7 +1,8 @@
 ghost use Rattle.std.specs.Prelude.{◌≡◌, ◌+◌, ◌*◌, ◌≤◌, ◌<◌, ◌^◌, ◌↔◌, IfOk, IsTrue, length, take};
 ghost use Rattle.std.specs.Option.{SomeIff};
 ghost use Rattle.header_codec.specs.declared.types.Layout.{Layout};
-ghost use Rattle.header_codec.specs.Layouts.{IsContiguous, HasChunkHead, IsChunk, IsOfShape, SpellsLayout, u32s_at, product, dimensionality};
+ghost use Rattle.header_codec.specs.Layouts.{IsContiguous, HasChunkHead, IsChunk, IsOfShape, SpellsLayout, u32s_at};
+ghost use Rattle.header_codec.specs.Layouts.{product, dimensionality};
 
 use crate::types::Layout;
 use dtype::{Dims, PartStop};

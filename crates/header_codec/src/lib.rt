@@ -1,5 +1,5 @@
-//! Object headers of version 1: the prefix, the messages, data layouts and fill values, read exactly, and the headers of
-//! a new group and a new dataset, written (HDF5 File Format Specification 3.0, IV.A).
+//! Object headers of version 1: the prefix, the messages, data layouts and fill values, read exactly, and the headers
+//! of a new group and a new dataset, written (HDF5 File Format Specification 3.0, IV.A).
 #![tactic(auto)]
 
 mod fill_codec;

@@ -67,8 +67,8 @@ pub enum NewHeader {
 
 impl NewHeader {
     /// Whether each of its messages has a spelling: a group always; a dataset of at most 32 dimensions and as many
-    /// maximum sizes, whose elements are integers of 1, 2, 4 or 8 bytes or strings of 1 to 65,535, with a fill value of 1
-    /// to 65,520 bytes or none, and sizes of a chunk where it is chunked.
+    /// maximum sizes, whose elements are integers of 1, 2, 4 or 8 bytes or strings of 1 to 65,535, with a fill value of
+    /// 1 to 65,520 bytes or none, and sizes of a chunk where it is chunked.
     pub fn is_writable(&self) -> bool
         ensures { IsTrue result ↔ HasHeader self.now }
     {

@@ -2,7 +2,9 @@ ghost use Rattle.std.specs.Prelude.{◌≡◌, ◌+◌, ◌*◌, ◌^◌, ◌≤
 ghost use Rattle.std.specs.Int.{w16, w32, w64, to_le_bytes};
 ghost use Rattle.dtype.specs.Shapes.{IsShape, SpellsShape, shape_bytes};
 ghost use Rattle.dtype.specs.Types.{IsElemType, SpellsType, type_bytes};
-ghost use Rattle.header_codec.specs.Written.{HasHeader, IsDataset, SpellsHeader, parts_of, header_bytes, part, message_bytes, prefix_bytes, table_bytes, value_bytes, alloc_time, fill_bytes, layout_bytes, filled, padding, IsFillValue, IsFit, IsLayout};
+ghost use Rattle.header_codec.specs.Written.{HasHeader, IsDataset, SpellsHeader, parts_of, header_bytes, part};
+ghost use Rattle.header_codec.specs.Written.{message_bytes, prefix_bytes, table_bytes, value_bytes, alloc_time};
+ghost use Rattle.header_codec.specs.Written.{fill_bytes, layout_bytes, filled, padding, IsFillValue, IsFit, IsLayout};
 ghost use Rattle.header_codec.specs.Fills.{SpellsFill};
 ghost use Rattle.header_codec.specs.Layouts.{SpellsLayout, IsChunk};
 
@@ -133,9 +135,11 @@ fn append_fill(
     fill: &Fill,
 ) -> Result<(), NoMemory>
     requires { IsFillValue fill.now }
-    ensures appended { OnOk result (out.new.items ≡ out.old.items ++ message_bytes (part 5 (fill_bytes (alloc_time layout.now) (value_bytes fill.now)))) }
+    ensures appended { OnOk result (out.new.items ≡ out.old.items ++ message_bytes
+        (part 5 (fill_bytes (alloc_time layout.now) (value_bytes fill.now)))) }
     ensures fit { OnOk result (IsFit (part 5 (fill_bytes (alloc_time layout.now) (value_bytes fill.now)))) }
-    ensures told { OnOk result (SpellsFill fill.now (filled (fill_bytes (alloc_time layout.now) (value_bytes fill.now)))) }
+    ensures told { OnOk result (SpellsFill fill.now
+        (filled (fill_bytes (alloc_time layout.now) (value_bytes fill.now)))) }
 {
     let value = value_of(fill);
     let [a, b, c, d] = (value.len() as u32).to_le_bytes();
@@ -162,9 +166,11 @@ fn append_sizes(out: &mut Vec<u8>, sizes: &[u64]) -> Result<(), NoMemory>
 }
 
 fn append_contiguous(out: &mut Vec<u8>, at: u64, len: u64) -> Result<(), NoMemory>
-    ensures appended { OnOk result (out.new.items ≡ out.old.items ++ message_bytes (part 8 (layout_bytes (Layout.Contiguous at len)))) }
+    ensures appended { OnOk result (out.new.items ≡ out.old.items ++ message_bytes
+        (part 8 (layout_bytes (Layout.Contiguous at len)))) }
     ensures fit { OnOk result (IsFit (part 8 (layout_bytes (Layout.Contiguous at len)))) }
-    ensures told { OnOk result (SpellsLayout (Layout.Contiguous at len) (filled (layout_bytes (Layout.Contiguous at len)))) }
+    ensures told { OnOk result (SpellsLayout (Layout.Contiguous at len)
+        (filled (layout_bytes (Layout.Contiguous at len)))) }
 {
     let [a, b, c, d, e, f, g, h] = at.to_le_bytes();
     let [i, j, k, l, m, n, o, p] = len.to_le_bytes();
@@ -179,9 +185,11 @@ fn append_chunked(
     sizes: &[u64],
 ) -> Result<(), NoMemory>
     requires { IsChunk sizes.now }
-    ensures appended { OnOk result (out.new.items ≡ out.old.items ++ message_bytes (part 8 (layout_bytes (Layout.Chunked tree_at sizes.now)))) }
+    ensures appended { OnOk result (out.new.items ≡ out.old.items ++ message_bytes
+        (part 8 (layout_bytes (Layout.Chunked tree_at sizes.now)))) }
     ensures fit { OnOk result (IsFit (part 8 (layout_bytes (Layout.Chunked tree_at sizes.now)))) }
-    ensures told { OnOk result (SpellsLayout (Layout.Chunked tree_at sizes.now) (filled (layout_bytes (Layout.Chunked tree_at sizes.now)))) }
+    ensures told { OnOk result (SpellsLayout (Layout.Chunked tree_at sizes.now)
+        (filled (layout_bytes (Layout.Chunked tree_at sizes.now)))) }
 {
     let [a, b, c, d, e, f, g, h] = tree_at.to_le_bytes();
     let head = [3, 2, sizes.len() as u8, a, b, c, d, e, f, g, h];
@@ -209,7 +217,8 @@ fn append_layout(alloc: Global, out: &mut Vec<u8>, layout: &Layout) -> Result<()
 
 fn write_group(alloc: Global, tree_at: u64, heap_at: u64) -> Result<Bytes, NoMemory>
     ensures bytes { IfOk result (λ b. b ≡ header_bytes (NewHeader.Group tree_at heap_at)) }
-    ensures spelled { IfOk result (SpellsHeader (NewHeader.Group tree_at heap_at) (parts_of (NewHeader.Group tree_at heap_at))) }
+    ensures spelled { IfOk result (SpellsHeader (NewHeader.Group tree_at heap_at)
+        (parts_of (NewHeader.Group tree_at heap_at))) }
 {
     write_table(alloc, tree_at, heap_at)
 }
@@ -235,7 +244,8 @@ fn write_dataset(
 ) -> Result<Bytes, NoMemory>
     requires { IsDataset space.now elem.now fill.now layout.now }
     ensures bytes { IfOk result (λ b. b ≡ header_bytes (NewHeader.Dataset space.now elem.now fill.now layout.now)) }
-    ensures spelled { IfOk result (SpellsHeader (NewHeader.Dataset space.now elem.now fill.now layout.now) (parts_of (NewHeader.Dataset space.now elem.now fill.now layout.now))) }
+    ensures spelled { IfOk result (SpellsHeader (NewHeader.Dataset space.now elem.now fill.now layout.now)
+        (parts_of (NewHeader.Dataset space.now elem.now fill.now layout.now))) }
 {
     let mut messages = Vec::new(alloc);
     append_shape(alloc, &mut messages, space)?;

@@ -10,7 +10,8 @@ use Rattle.header_codec.specs.Headers.{SpellsPrefix}
 use Rattle.header_codec.specs.declared.types.Prefix.{Prefix}
 use Rattle.outside.specs.Array.{Array, bytes_of}
 use Rattle.outside.specs.Blocks.{Block, Bounds}
-use Rattle.file_model.specs.Headers.{Met, Stand, after, IsWhole, AreWhole, continued, Part, IsRead, AreMet, first_block, messages_of}
+use Rattle.file_model.specs.Headers.{Met, Stand, after, IsWhole, AreWhole, continued, Part, IsRead, AreMet, first_block}
+use Rattle.file_model.specs.Headers.{messages_of}
 use Rattle.file_model.specs.Limits.{header_bytes, most_header}
 use Rattle.file_model.specs.Refusals.{Refusal, Malformed, Unsupported, IsPlacedRefused, met_bytes}
 use Rattle.object_header.specs.Firsts.{Firsts}
@@ -50,24 +51,31 @@ pub data IsNameRefused (e : Bounds) (met : List Block) (total start len : ℕ) (
   BadBlock : IsPlacedRefused e met start len kind.Header r → IsNameRefused e met total start len r
 
 -- The message at a place of a block is refused, or the block that it names, where blocks of so many bytes were met.
-pub data IsStepRefused (e : Bounds) (met : List Block) (total start : ℕ) (bytes : List ℕ) (place : ℕ) (r : Refusal) : Type 0 where
-  BadMessage : ((m : Met) → IsMessageAt bytes place m → ⊥) → r ≡ Malformed (start + place) kind.Message → IsStepRefused e met total start bytes place r
-  LargeHeader : (m : Met) → IsMessageAt bytes place m → most_header < total + met_bytes (continued m) → r ≡ Unsupported what.Header
+pub data IsStepRefused (e : Bounds) (met : List Block) (total start : ℕ) (bytes : List ℕ) (place : ℕ)
+    (r : Refusal) : Type 0 where
+  BadMessage : ((m : Met) → IsMessageAt bytes place m → ⊥) → r ≡ Malformed (start + place) kind.Message
       → IsStepRefused e met total start bytes place r
-  BadContinuation : (m : Met) → IsMessageAt bytes place m → m.kind ≡ 0x10 → IsPlacedRefused e met (u64_at m.body 0) (u64_at m.body 8) kind.Header r
+  LargeHeader : (m : Met) → IsMessageAt bytes place m → most_header < total + met_bytes (continued m)
+      → r ≡ Unsupported what.Header
+      → IsStepRefused e met total start bytes place r
+  BadContinuation : (m : Met) → IsMessageAt bytes place m → m.kind ≡ 0x10
+      → IsPlacedRefused e met (u64_at m.body 0) (u64_at m.body 8) kind.Header r
       → IsStepRefused e met total start bytes place r
 
 -- One of the wanted messages of a block is refused, behind others that were met.
-pub record IsBlockStop (e : Bounds) (met : List Block) (total start : ℕ) (bytes : List ℕ) (wanted : ℕ) (r : Refusal) : Type 0 where
+pub record IsBlockStop (e : Bounds) (met : List Block) (total start : ℕ) (bytes : List ℕ) (wanted : ℕ)
+    (r : Refusal) : Type 0 where
   pub ms : List Met
   pub stand : Stand bytes 0 ms
   pub whole : AreWhole ms
   pub more : length ms < wanted
   pub room : after 0 ms + 8 ≤ length bytes
-  pub step : IsStepRefused e (met ++ flat_map continued ms) (total + met_bytes (flat_map continued ms)) start bytes (after 0 ms) r
+  pub step : IsStepRefused e (met ++ flat_map continued ms) (total + met_bytes (flat_map continued ms)) start bytes
+      (after 0 ms) r
 
 -- These parts of a header were met; where the bytes are told, they are those of the array.
-pub record IsWalked (tells : Bool) (b : Array) (at : ℕ) (prefix : Prefix) (parts : List Part) (walk : Walk) : Type 0 where
+pub record IsWalked (tells : Bool) (b : Array) (at : ℕ) (prefix : Prefix) (parts : List Part)
+    (walk : Walk) : Type 0 where
   pub met : IsTrue tells → AreMet b (first_block at prefix ∷ []) prefix.messages parts (waiting_of walk) walk.wanted
   pub gathered : Gathers walk.messages (messages_of parts)
   pub whole : AreWhole (messages_of parts)

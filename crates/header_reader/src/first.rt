@@ -1,4 +1,5 @@
-ghost use Rattle.std.specs.Prelude.{◌≡◌, ◌+◌, ◌^◌, ◌<◌, ◌≤◌, ◌↔◌, ◌⊎◌, ◌∷◌, [], ℕ, List, Option, IsTrue, IfSome, IsErrOf, length, take};
+ghost use Rattle.std.specs.Prelude.{◌≡◌, ◌+◌, ◌^◌, ◌<◌, ◌≤◌, ◌↔◌, ◌⊎◌, ◌∷◌, [], ℕ, List, Option, IsTrue, IfSome};
+ghost use Rattle.std.specs.Prelude.{IsErrOf, length, take};
 ghost use Rattle.outside.specs.Blocks.{Block};
 ghost use Rattle.outside.specs.Space.{bounds_of};
 ghost use Rattle.block_space.specs.Blocks.{Keeps, space_of};
@@ -39,7 +40,8 @@ pub(crate) fn is_later(bytes: &[u8]) -> bool
 pub(crate) fn no_prefix<V: Space>(blocks: &mut Blocks<V>, at: u64) -> TreeStop
     requires listed { (met : List Block) × Keeps V.view blocks.old met }
     ensures refused { (met : List Block) (own : Option (List ℕ)) → Keeps V.view blocks.old met
-        → IfSome (refusal_of result) (λ r. IsBlockRefused (bounds_of (V.view (space_of blocks.old)) own) met (record { start = at; len = 16 }) block_kind.Header r
+        → IfSome (refusal_of result) (λ r. IsBlockRefused (bounds_of (V.view (space_of blocks.old)) own) met
+        (record { start = at; len = 16 }) block_kind.Header r
         ⊎ ((at + 16 < 2 ^ 64) × (r ≡ Malformed at block_kind.Header))) }
     ensures no_fault { result ≡ TreeStop.Failed → ⊥ }
     ensures space { space_of blocks.new ≡ space_of blocks.old }

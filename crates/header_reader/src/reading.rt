@@ -1,4 +1,5 @@
-ghost use Rattle.std.specs.Prelude.{◌≡◌, ◌+◌, ◌^◌, ◌<◌, ◌≤◌, ◌++◌, ◌∷◌, [], ℕ, List, Option, IsTrue, IfOk, IfErr, IfSome, OnOk, IsErrOf};
+ghost use Rattle.std.specs.Prelude.{◌≡◌, ◌+◌, ◌^◌, ◌<◌, ◌≤◌, ◌++◌, ◌∷◌, [], ℕ, List, Option, IsTrue, IfOk, IfErr};
+ghost use Rattle.std.specs.Prelude.{IfSome, OnOk, IsErrOf};
 ghost use Rattle.header_codec.specs.declared.types.Prefix.{Prefix};
 ghost use Rattle.outside.specs.Array.{Array};
 ghost use Rattle.outside.specs.Blocks.{Block};
@@ -43,15 +44,20 @@ fn gather<V: Space>(
     requires listed { (met : List Block) × Keeps V.view blocks.old met }
     requires short { 16 + prefix.size ≤ 1048576 }
     requires fits { at + 16 + prefix.size < 2 ^ 64 }
-    ensures found { IsTrue V.tells → IfOk result (λ messages. (parts : List Part) × IsGathered (V.view (space_of blocks.old)).array at prefix messages parts
-        × ((met : List Block) → Keeps V.view blocks.old (met ++ record { start = at; len = 16 + prefix.size } ∷ []) → Keeps V.view blocks.new (met ++ header_blocks at prefix parts))) }
-    ensures refused { IsTrue V.tells → IfErr result (λ stop. (met : List Block) (own : Option (List ℕ)) → Keeps V.view blocks.old (met ++ record { start = at; len = 16 + prefix.size } ∷ [])
-        → IfSome (refusal_of stop) (IsMessageRefused (V.view (space_of blocks.old)).array (bounds_of (V.view (space_of blocks.old)) own) met at prefix)) }
+    ensures found { IsTrue V.tells → IfOk result (λ messages. (parts : List Part)
+        × IsGathered (V.view (space_of blocks.old)).array at prefix messages parts
+        × ((met : List Block) → Keeps V.view blocks.old (met ++ record { start = at; len = 16 + prefix.size } ∷ [])
+        → Keeps V.view blocks.new (met ++ header_blocks at prefix parts))) }
+    ensures refused { IsTrue V.tells → IfErr result (λ stop. (met : List Block) (own : Option (List ℕ))
+        → Keeps V.view blocks.old (met ++ record { start = at; len = 16 + prefix.size } ∷ [])
+        → IfSome (refusal_of stop) (IsMessageRefused (V.view (space_of blocks.old)).array
+        (bounds_of (V.view (space_of blocks.old)) own) met at prefix)) }
     ensures alike { V.Alike (space_of blocks.old) (space_of blocks.new) }
     ensures stands { (IsErrOf result TreeStop.Failed → ⊥) → V.Stands (space_of blocks.new) }
     ensures listed { OnOk result ((met : List Block) × Keeps V.view blocks.new met) }
     ensures later { V.faults (space_of blocks.old) ≤ V.faults (space_of blocks.new) }
-    ensures cause { IsErrOf result TreeStop.Failed → Rose (V.faults (space_of blocks.old)) (V.faults (space_of blocks.new)) }
+    ensures cause { IsErrOf result TreeStop.Failed
+        → Rose (V.faults (space_of blocks.old)) (V.faults (space_of blocks.new)) }
 {
     let mut walk = match Walk::begin(alloc, at, prefix) {
         Ok(walk) => walk,
@@ -74,7 +80,8 @@ fn gather<V: Space>(
 
 // The object that the messages of a header make.
 fn known(alloc: Global, messages: Messages) -> Result<Header, TreeStop>
-    ensures made { IfOk result (λ x. (b : Array) (at : ℕ) (prefix : Prefix) (parts : List Part) → IsHeader b at prefix parts → Gathers messages (messages_of parts) → AreWhole (messages_of parts)
+    ensures made { IfOk result (λ x. (b : Array) (at : ℕ) (prefix : Prefix) (parts : List Part)
+        → IsHeader b at prefix parts → Gathers messages (messages_of parts) → AreWhole (messages_of parts)
         → header_bytes at prefix parts ≤ most_header → IsFound b at x (header_blocks at prefix parts)) }
     ensures sound { IfOk result IsSoundHeader }
     ensures memory { IfErr result (λ stop. stop ≡ TreeStop.NoMemory) }
@@ -94,17 +101,21 @@ fn read_known<V: Space>(
 ) -> Result<Header, TreeStop>
     requires stands { V.Stands (space_of blocks.old) }
     requires listed { (met : List Block) × Keeps V.view blocks.old met }
-    ensures found { IsTrue V.tells → HasPrefix (V.view (space_of blocks.old)).array at prefix → IfOk result (λ x. (met : List Block) → Keeps V.view blocks.old met
-        → (bs : List Block) × IsFound (V.view (space_of blocks.old)).array at x bs × Keeps V.view blocks.new (met ++ bs)) }
+    ensures found { IsTrue V.tells → HasPrefix (V.view (space_of blocks.old)).array at prefix
+        → IfOk result (λ x. (met : List Block) → Keeps V.view blocks.old met
+        → (bs : List Block) × IsFound (V.view (space_of blocks.old)).array at x bs
+        × Keeps V.view blocks.new (met ++ bs)) }
     ensures refused { IsTrue V.tells → HasPrefix (V.view (space_of blocks.old)).array at prefix
         → IfErr result (λ stop. (met : List Block) (own : Option (List ℕ)) → Keeps V.view blocks.old met
-        → IfSome (refusal_of stop) (IsHeaderRefused (V.view (space_of blocks.old)).array (bounds_of (V.view (space_of blocks.old)) own) met at)) }
+        → IfSome (refusal_of stop) (IsHeaderRefused (V.view (space_of blocks.old)).array
+        (bounds_of (V.view (space_of blocks.old)) own) met at)) }
     ensures sound { IfOk result IsSoundHeader }
     ensures alike { V.Alike (space_of blocks.old) (space_of blocks.new) }
     ensures stands { (IsErrOf result TreeStop.Failed → ⊥) → V.Stands (space_of blocks.new) }
     ensures listed { OnOk result ((met : List Block) × Keeps V.view blocks.new met) }
     ensures later { V.faults (space_of blocks.old) ≤ V.faults (space_of blocks.new) }
-    ensures cause { IsErrOf result TreeStop.Failed → Rose (V.faults (space_of blocks.old)) (V.faults (space_of blocks.new)) }
+    ensures cause { IsErrOf result TreeStop.Failed
+        → Rose (V.faults (space_of blocks.old)) (V.faults (space_of blocks.new)) }
 {
     let len = 16 + u64::from(prefix.size);
     if len > MOST_BYTES {
@@ -120,9 +131,9 @@ fn read_known<V: Space>(
 }
 
 /// Reads the object header at an address, takes its blocks into the catalogue, and says which object it makes (HDF5
-/// File Format Specification 3.0, IV.A.1.a, IV.A.2 and IV.A.2.q). Of a header that begins with `OHDR` only these 4 bytes
-/// are taken. `Unsupported` says that it has more than 1,048,576 bytes with its continuations; `Malformed` names the
-/// header, or the address of a message in it.
+/// File Format Specification 3.0, IV.A.1.a, IV.A.2 and IV.A.2.q). Of a header that begins with `OHDR` only these 4
+/// bytes are taken. `Unsupported` says that it has more than 1,048,576 bytes with its continuations; `Malformed` names
+/// the header, or the address of a message in it.
 pub fn read_header<V: Space>(
     alloc: Global,
     blocks: &mut Blocks<V>,
@@ -131,15 +142,19 @@ pub fn read_header<V: Space>(
     requires stands { V.Stands (space_of blocks.old) }
     requires listed { (met : List Block) × Keeps V.view blocks.old met }
     ensures found { IsTrue V.tells → IfOk result (λ x. (met : List Block) → Keeps V.view blocks.old met
-        → (bs : List Block) × IsFound (V.view (space_of blocks.old)).array at x bs × Keeps V.view blocks.new (met ++ bs)) }
-    ensures refused { IsTrue V.tells → IfErr result (λ stop. (met : List Block) (own : Option (List ℕ)) → Keeps V.view blocks.old met
-        → IfSome (refusal_of stop) (IsHeaderRefused (V.view (space_of blocks.old)).array (bounds_of (V.view (space_of blocks.old)) own) met at)) }
+        → (bs : List Block) × IsFound (V.view (space_of blocks.old)).array at x bs
+        × Keeps V.view blocks.new (met ++ bs)) }
+    ensures refused { IsTrue V.tells → IfErr result (λ stop. (met : List Block) (own : Option (List ℕ))
+        → Keeps V.view blocks.old met
+        → IfSome (refusal_of stop) (IsHeaderRefused (V.view (space_of blocks.old)).array
+        (bounds_of (V.view (space_of blocks.old)) own) met at)) }
     ensures sound { IfOk result IsSoundHeader }
     ensures alike { V.Alike (space_of blocks.old) (space_of blocks.new) }
     ensures stands { (IsErrOf result TreeStop.Failed → ⊥) → V.Stands (space_of blocks.new) }
     ensures listed { OnOk result ((met : List Block) × Keeps V.view blocks.new met) }
     ensures later { V.faults (space_of blocks.old) ≤ V.faults (space_of blocks.new) }
-    ensures cause { IsErrOf result TreeStop.Failed → Rose (V.faults (space_of blocks.old)) (V.faults (space_of blocks.new)) }
+    ensures cause { IsErrOf result TreeStop.Failed
+        → Rose (V.faults (space_of blocks.old)) (V.faults (space_of blocks.new)) }
 {
     let first = match read(alloc, blocks, at, first_len(at)) {
         Ok(first) => first,

@@ -1,4 +1,5 @@
-ghost use Rattle.std.specs.Prelude.{◌≡◌, ◌+◌, ◌^◌, ◌<◌, ◌≤◌, ◌++◌, ◌∷◌, ◌⊎◌, [], ℕ, List, Option, None, IsTrue, IfOk, IfErr, IfSome, IfNone, OnOk, IsErrOf, length};
+ghost use Rattle.std.specs.Prelude.{◌≡◌, ◌+◌, ◌^◌, ◌<◌, ◌≤◌, ◌++◌, ◌∷◌, ◌⊎◌, [], ℕ, List, Option, None, IsTrue, IfOk};
+ghost use Rattle.std.specs.Prelude.{IfErr, IfSome, IfNone, OnOk, IsErrOf, length};
 ghost use Rattle.std.specs.List.{flat_map};
 ghost use Rattle.h5_base.specs.Fields.{u64_at};
 ghost use Rattle.header_codec.specs.Headers.{SpellsMessage};
@@ -12,7 +13,8 @@ ghost use Rattle.block_reader.specs.Stops.{refusal_of};
 ghost use Rattle.file_model.specs.Headers.{Met, AreWhole, continued, first_block};
 ghost use Rattle.object_header.specs.Gathered.{Gathers};
 ghost use Rattle.file_model.specs.Refusals.{met_bytes};
-ghost use Rattle.header_reader.specs.Walks.{Meets, IsMessageAt, AreMessages, IsNameRefused, IsStepRefused, IsBlockStop, waiting_of};
+ghost use Rattle.header_reader.specs.Walks.{Meets, IsMessageAt, AreMessages, IsNameRefused, IsStepRefused, IsBlockStop};
+ghost use Rattle.header_reader.specs.Walks.{waiting_of};
 
 use block_reader::{TreeStop, adopt_placed, read};
 use block_space::Blocks;
@@ -48,7 +50,8 @@ pub(crate) struct Walk {
 fn whole_message(bytes: &[u8], place: usize) -> Option<Message>
     ensures found { IfSome result (λ m. SpellsMessage m bytes.now place) }
     ensures whole { IfSome result (λ m. (m.kind ≡ 0x10) ⊎ (m.kind ≡ 0x11) → 16 ≤ m.len) }
-    ensures only { IfNone result ((m : Message) → SpellsMessage m bytes.now place → ((m.kind ≡ 0x10) ⊎ (m.kind ≡ 0x11) → 16 ≤ m.len) → ⊥) }
+    ensures only { IfNone result ((m : Message) → SpellsMessage m bytes.now place
+        → ((m.kind ≡ 0x10) ⊎ (m.kind ≡ 0x11) → 16 ≤ m.len) → ⊥) }
 {
     let message = read_message(bytes, place)?;
     let has_numbers = message.kind == CONTINUATION || message.kind == SYMBOL_TABLE;
@@ -92,14 +95,16 @@ impl Walk {
     ) -> Result<(), TreeStop>
         requires short { self.old.total ≤ 1048576 }
         requires listed { (met : List Block) × Keeps V.view blocks.old met }
-        ensures kept { OnOk result ((met : List Block) → Keeps V.view blocks.old met → Keeps V.view blocks.new (met ++ placed start len)) }
+        ensures kept { OnOk result ((met : List Block) → Keeps V.view blocks.old met
+            → Keeps V.view blocks.new (met ++ placed start len)) }
         ensures waiting { OnOk result (waiting_of self.new ≡ waiting_of self.old ++ placed start len) }
         ensures total { OnOk result (self.new.total ≡ self.old.total + len) }
         ensures short { OnOk result (self.new.total ≤ 1048576) }
         ensures messages { self.new.messages ≡ self.old.messages }
         ensures wanted { self.new.wanted ≡ self.old.wanted }
         ensures refused { IfErr result (λ stop. (met : List Block) (own : Option (List ℕ)) → Keeps V.view blocks.old met
-            → IfSome (refusal_of stop) (IsNameRefused (bounds_of (V.view (space_of blocks.old)) own) met self.old.total start len)) }
+            → IfSome (refusal_of stop) (IsNameRefused
+            (bounds_of (V.view (space_of blocks.old)) own) met self.old.total start len)) }
         ensures no_fault { IsErrOf result TreeStop.Failed → ⊥ }
         ensures space { space_of blocks.new ≡ space_of blocks.old }
     {
@@ -126,14 +131,19 @@ impl Walk {
         requires short { self.old.total ≤ 1048576 }
         requires whole { kind ≡ 0x10 → 16 ≤ length body.now }
         requires listed { (met : List Block) × Keeps V.view blocks.old met }
-        ensures kept { OnOk result ((met : List Block) → Keeps V.view blocks.old met → Keeps V.view blocks.new (met ++ continued (record { kind = kind; flags = 0; body = body.now }))) }
-        ensures waiting { OnOk result (waiting_of self.new ≡ waiting_of self.old ++ continued (record { kind = kind; flags = 0; body = body.now })) }
-        ensures total { OnOk result (self.new.total ≡ self.old.total + met_bytes (continued (record { kind = kind; flags = 0; body = body.now }))) }
+        ensures kept { OnOk result ((met : List Block) → Keeps V.view blocks.old met
+            → Keeps V.view blocks.new (met ++ continued (record { kind = kind; flags = 0; body = body.now }))) }
+        ensures waiting { OnOk result (waiting_of self.new ≡ waiting_of self.old ++ continued
+            (record { kind = kind; flags = 0; body = body.now })) }
+        ensures total { OnOk result (self.new.total ≡ self.old.total + met_bytes
+            (continued (record { kind = kind; flags = 0; body = body.now }))) }
         ensures short { OnOk result (self.new.total ≤ 1048576) }
         ensures messages { self.new.messages ≡ self.old.messages }
         ensures wanted { self.new.wanted ≡ self.old.wanted }
         ensures refused { IfErr result (λ stop. (met : List Block) (own : Option (List ℕ)) → Keeps V.view blocks.old met
-            → IfSome (refusal_of stop) (λ r. (kind ≡ 0x10) × IsNameRefused (bounds_of (V.view (space_of blocks.old)) own) met self.old.total (u64_at body.now 0) (u64_at body.now 8) r)) }
+            → IfSome (refusal_of stop) (λ r. (kind ≡ 0x10)
+            × IsNameRefused (bounds_of (V.view (space_of blocks.old)) own) met self.old.total (u64_at body.now 0)
+            (u64_at body.now 8) r)) }
         ensures no_fault { IsErrOf result TreeStop.Failed → ⊥ }
         ensures space { space_of blocks.new ≡ space_of blocks.old }
     {
@@ -157,11 +167,13 @@ impl Walk {
         requires fits { start + length bytes.now ≤ 2 ^ 64 }
         requires room { place + 8 ≤ length bytes.now }
         requires listed { (met : List Block) × Keeps V.view blocks.old met }
-        ensures found { IfOk result (λ next. (m : Met) × IsMessageAt bytes.now place m × (next ≡ place + 8 + length m.body) × Meets self.old self.new (m ∷ [])
+        ensures found { IfOk result (λ next. (m : Met) × IsMessageAt bytes.now place m
+            × (next ≡ place + 8 + length m.body) × Meets self.old self.new (m ∷ [])
             × ((met : List Block) → Keeps V.view blocks.old met → Keeps V.view blocks.new (met ++ continued m))) }
         ensures within { IfOk result (λ next. next ≤ length bytes.now) }
         ensures refused { IfErr result (λ stop. (met : List Block) (own : Option (List ℕ)) → Keeps V.view blocks.old met
-            → IfSome (refusal_of stop) (IsStepRefused (bounds_of (V.view (space_of blocks.old)) own) met self.old.total start bytes.now place)) }
+            → IfSome (refusal_of stop) (IsStepRefused
+            (bounds_of (V.view (space_of blocks.old)) own) met self.old.total start bytes.now place)) }
         ensures no_fault { IsErrOf result TreeStop.Failed → ⊥ }
         ensures space { space_of blocks.new ≡ space_of blocks.old }
     {
@@ -192,10 +204,13 @@ impl Walk {
         requires short { self.old.total ≤ 1048576 }
         requires fits { start + length bytes.now ≤ 2 ^ 64 }
         requires listed { (met : List Block) × Keeps V.view blocks.old met }
-        ensures found { OnOk result ((ms : List Met) × AreMessages bytes.now self.old.wanted ms × Meets self.old self.new ms
-            × ((met : List Block) → Keeps V.view blocks.old met → Keeps V.view blocks.new (met ++ flat_map continued ms))) }
+        ensures found { OnOk result ((ms : List Met) × AreMessages bytes.now self.old.wanted ms
+            × Meets self.old self.new ms
+            × ((met : List Block) → Keeps V.view blocks.old met
+            → Keeps V.view blocks.new (met ++ flat_map continued ms))) }
         ensures refused { IfErr result (λ stop. (met : List Block) (own : Option (List ℕ)) → Keeps V.view blocks.old met
-            → IfSome (refusal_of stop) (IsBlockStop (bounds_of (V.view (space_of blocks.old)) own) met self.old.total start bytes.now self.old.wanted)) }
+            → IfSome (refusal_of stop) (IsBlockStop
+            (bounds_of (V.view (space_of blocks.old)) own) met self.old.total start bytes.now self.old.wanted)) }
         ensures no_fault { IsErrOf result TreeStop.Failed → ⊥ }
         ensures space { space_of blocks.new ≡ space_of blocks.old }
     {
@@ -219,15 +234,23 @@ impl Walk {
         requires stands { V.Stands (space_of blocks.old) }
         requires listed { (met : List Block) × Keeps V.view blocks.old met }
         requires short { self.old.total ≤ 1048576 }
-        ensures found { OnOk result ((ms : List Met) × (IsTrue V.tells → AreMessages (bytes_of (V.view (space_of blocks.old)).array part.start part.len) self.old.wanted ms)
-            × AreWhole ms × Meets self.old self.new ms × ((met : List Block) → Keeps V.view blocks.old met → Keeps V.view blocks.new (met ++ flat_map continued ms))) }
-        ensures refused { IsTrue V.tells → IfErr result (λ stop. (met : List Block) (own : Option (List ℕ)) → Keeps V.view blocks.old met
-            → IfSome (refusal_of stop) (IsBlockStop (bounds_of (V.view (space_of blocks.old)) own) met self.old.total part.start (bytes_of (V.view (space_of blocks.old)).array part.start part.len) self.old.wanted)) }
+        ensures found { OnOk result ((ms : List Met)
+            × (IsTrue V.tells → AreMessages (bytes_of
+            (V.view (space_of blocks.old)).array part.start part.len) self.old.wanted ms)
+            × AreWhole ms × Meets self.old self.new ms
+            × ((met : List Block) → Keeps V.view blocks.old met
+            → Keeps V.view blocks.new (met ++ flat_map continued ms))) }
+        ensures refused { IsTrue V.tells → IfErr result (λ stop. (met : List Block) (own : Option (List ℕ))
+            → Keeps V.view blocks.old met
+            → IfSome (refusal_of stop) (IsBlockStop
+            (bounds_of (V.view (space_of blocks.old)) own) met self.old.total part.start
+            (bytes_of (V.view (space_of blocks.old)).array part.start part.len) self.old.wanted)) }
         ensures alike { V.Alike (space_of blocks.old) (space_of blocks.new) }
         ensures stands { (IsErrOf result TreeStop.Failed → ⊥) → V.Stands (space_of blocks.new) }
         ensures listed { OnOk result ((met : List Block) × Keeps V.view blocks.new met) }
         ensures later { V.faults (space_of blocks.old) ≤ V.faults (space_of blocks.new) }
-        ensures cause { IsErrOf result TreeStop.Failed → Rose (V.faults (space_of blocks.old)) (V.faults (space_of blocks.new)) }
+        ensures cause { IsErrOf result TreeStop.Failed
+            → Rose (V.faults (space_of blocks.old)) (V.faults (space_of blocks.new)) }
     {
         let bytes = match read(alloc, blocks, part.start, part.len as usize) {
             Ok(bytes) => bytes,

@@ -1,6 +1,7 @@
 -- What a store in memory holds, by id, what it tells of it, when a call fails, and what each call leaves.
 -- Cited by the clauses of `MemStore`.
-use Rattle.std.specs.Prelude.{◌≡◌, ◌⊎◌, ◌↔◌, ℕ, ◌+◌, ◌<◌, ◌≤◌, List, [], ◌∷◌, ◌++◌, length, map, slice_set, slice_index, slice_index_or, true, Option, Some, None, Any, Result, IsErr, OnOk, OnErr}
+use Rattle.std.specs.Prelude.{◌≡◌, ◌⊎◌, ◌↔◌, ℕ, ◌+◌, ◌<◌, ◌≤◌, List, [], ◌∷◌, ◌++◌, length, map, slice_set, slice_index}
+use Rattle.std.specs.Prelude.{slice_index_or, true, Option, Some, None, Any, Result, IsErr, OnOk, OnErr}
 use Rattle.std.specs.List.{sum_by, range_with_len}
 use Rattle.outside.specs.Files.{written, resized}
 use Rattle.outside.specs.Store.{View}
@@ -76,7 +77,8 @@ pub record IsAt (file : List ℕ) (kind : Op) (number : ℕ) (fail : Fail) : Typ
 
 -- the next call of this kind on this file is one of the list
 abbrev pub IsListed : Op → ℕ → Held → Type 0
-IsListed op i h = Any (IsAt (slice_index_or h.names i []) op (made op (slice_index_or h.tallies i no_calls) + 1)) h.fails
+IsListed op i h = Any (IsAt (slice_index_or h.names i []) op
+    (made op (slice_index_or h.tallies i no_calls) + 1)) h.fails
 
 -- the next call is past the room of calls
 abbrev pub IsLate : Held → Type 0
@@ -106,7 +108,8 @@ abbrev pub put : ℕ → List ℕ → Held → Held
 put i bytes h = record h { contents = slice_set h.contents i bytes }
 
 abbrev pub after_write : ℕ → ℕ → List ℕ → Held → Held
-after_write i at bytes h = record (put i (written at bytes (content i h)) (counted Write i h)) { written = h.written + length bytes }
+after_write i at bytes h = record (put i (written at bytes (content i h))
+    (counted Write i h)) { written = h.written + length bytes }
 
 abbrev pub after_set_len : ℕ → ℕ → Held → Held
 after_set_len i n h = put i (resized n (content i h)) (counted SetLen i h)
@@ -140,11 +143,13 @@ pub record Answers {T E : Type 0} (Fails : Type 0) (done failed new : Held) (res
 
 -- a call that only reads: it fails where it is listed or late
 abbrev pub Looks : {T E : Type 0} → Op → ℕ → Held → Held → Result T E → Type 0
-Looks op i old new result = Answers (IsListed op i old ⊎ IsLate old) (counted op i old) (after_fault op i old) new result
+Looks op i old new result = Answers (IsListed op i old
+    ⊎ IsLate old) (counted op i old) (after_fault op i old) new result
 
 -- a call that changes a file: also where what it would leave is past the room of bytes
 abbrev pub Changes : {T E : Type 0} → Op → ℕ → Held → Held → Held → Result T E → Type 0
-Changes op i old done new result = Answers ((IsListed op i old ⊎ IsLate old) ⊎ IsFull done) done (after_fault op i old) new result
+Changes op i old done new result = Answers ((IsListed op i old ⊎ IsLate old)
+    ⊎ IsFull done) done (after_fault op i old) new result
 
 -- the bytes of the first file with a name, none where there is none
 abbrev pub first_bytes : List NamedBytes → List ℕ → List ℕ

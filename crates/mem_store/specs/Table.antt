@@ -1,6 +1,7 @@
 -- A table of files: names, lengths, counts, and the bytes of all files one after another. An id is a place in it.
 -- Cited by the table's methods and by what a store in memory tells.
-use Rattle.std.specs.Prelude.{◌≡◌, ℕ, ◌+◌, ◌-◌, ◌^◌, ◌<◌, List, [], ◌∷◌, length, map, take, drop, slice_index_or, if◌then◌else◌, nat_lt}
+use Rattle.std.specs.Prelude.{◌≡◌, ℕ, ◌+◌, ◌-◌, ◌^◌, ◌<◌, List, [], ◌∷◌, length, map, take, drop, slice_index_or}
+use Rattle.std.specs.Prelude.{if◌then◌else◌, nat_lt}
 use Rattle.std.proofs.Common.{suc}
 use Rattle.std.specs.Str.{bytes_eq}
 use Rattle.mem_store.specs.declared.table.Op.{Op}

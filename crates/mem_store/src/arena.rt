@@ -1,4 +1,5 @@
-ghost use Rattle.std.specs.Prelude.{◌≡◌, ◌+◌, ◌-◌, ◌≤◌, ◌++◌, length, take, drop, replicate, max, vec_len, vec_capacity, ◌<◌, ◌^◌};
+ghost use Rattle.std.specs.Prelude.{◌≡◌, ◌+◌, ◌-◌, ◌≤◌, ◌++◌, length, take, drop, replicate, max, vec_len};
+ghost use Rattle.std.specs.Prelude.{vec_capacity, ◌<◌, ◌^◌};
 ghost use Rattle.outside.specs.Files.{written, resized};
 
 // Puts `n` zeros in at a place, within the memory that was taken before.
@@ -29,7 +30,8 @@ fn close(bytes: &mut Vec<u8>, at: usize, n: usize)
 
 fn cover(bytes: &mut Vec<u8>, at: usize, piece: &[u8])
     requires { at + length piece.now ≤ length bytes.old.items }
-    ensures items { bytes.new.items ≡ take at bytes.old.items ++ piece.now ++ drop (at + length piece.now) bytes.old.items }
+    ensures items { bytes.new.items ≡ take at bytes.old.items ++ piece.now ++ drop
+        (at + length piece.now) bytes.old.items }
     ensures capacity { vec_capacity bytes.old ≤ vec_capacity bytes.new }
 {
     bytes[at..at + piece.len()].copy_from_slice(piece);
@@ -39,7 +41,8 @@ fn cover(bytes: &mut Vec<u8>, at: usize, piece: &[u8])
 pub fn refit(bytes: &mut Vec<u8>, start: usize, len: usize, n: usize)
     requires within { start + len ≤ length bytes.old.items }
     requires room { length bytes.old.items - len + n ≤ vec_capacity bytes.old }
-    ensures items { bytes.new.items ≡ take start bytes.old.items ++ resized n (take len (drop start bytes.old.items)) ++ drop (start + len) bytes.old.items }
+    ensures items { bytes.new.items ≡ take start bytes.old.items ++ resized n
+        (take len (drop start bytes.old.items)) ++ drop (start + len) bytes.old.items }
     ensures capacity { vec_capacity bytes.old ≤ vec_capacity bytes.new }
 {
     if n > len {
@@ -54,7 +57,8 @@ pub fn overwrite(bytes: &mut Vec<u8>, start: usize, len: usize, at: usize, piece
     requires within { start + len ≤ length bytes.old.items }
     requires end { at + length piece.now < 2 ^ 64 }
     requires room { length bytes.old.items - len + max len (at + length piece.now) ≤ vec_capacity bytes.old }
-    ensures items { bytes.new.items ≡ take start bytes.old.items ++ written at piece.now (take len (drop start bytes.old.items)) ++ drop (start + len) bytes.old.items }
+    ensures items { bytes.new.items ≡ take start bytes.old.items ++ written at piece.now
+        (take len (drop start bytes.old.items)) ++ drop (start + len) bytes.old.items }
     ensures capacity { vec_capacity bytes.old ≤ vec_capacity bytes.new }
 {
     let end = len.max(at + piece.len());

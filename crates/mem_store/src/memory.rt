@@ -1,4 +1,6 @@
-ghost use Rattle.std.specs.Prelude.{◌≡◌, ◌≢◌, ◌+◌, ◌-◌, ◌<◌, ◌≤◌, ◌^◌, ◌⊎◌, ◌↔◌, ℕ, List, [], ◌∷◌, ◌++◌, length, take, drop, max, slice_index, slice_index_or, IfOk, OnOk, OnErr, IsTrue, Any, vec_capacity};
+ghost use Rattle.std.specs.Prelude.{◌≡◌, ◌≢◌, ◌+◌, ◌-◌, ◌<◌, ◌≤◌, ◌^◌, ◌⊎◌, ◌↔◌, ℕ, List, [], ◌∷◌, ◌++◌, length, take};
+ghost use Rattle.std.specs.Prelude.{drop, max, slice_index, slice_index_or, IfOk, OnOk, OnErr, IsTrue, Any};
+ghost use Rattle.std.specs.Prelude.{vec_capacity};
 ghost use Rattle.outside.specs.Files.{written, resized};
 ghost use Rattle.mem_store.specs.Table.{names_of, contents_of, tallies_of, faults_of, no_calls};
 ghost use Rattle.mem_store.specs.Held.{IsAt, file_of, first_bytes};
@@ -52,7 +54,8 @@ fn is_listed(fails: &[Fail], name: &Name, op: Op, before: u64) -> bool
 
 // The table of these files, each with its bytes, but of two with one name the first alone.
 fn table_of(alloc: Global, files: Vec<NamedBytes>) -> Result<Table, NoMemory>
-    ensures files { IfOk result (λ t. (q : List ℕ) → file_of (names_of t.entries.items) (contents_of t.entries.items t.bytes.items) q ≡ first_bytes files.items q) }
+    ensures files { IfOk result (λ t. (q : List ℕ)
+        → file_of (names_of t.entries.items) (contents_of t.entries.items t.bytes.items) q ≡ first_bytes files.items q) }
     ensures faults { IfOk result (λ t. (i : ℕ) → slice_index (faults_of t.entries.items) i ≡ 0) }
     ensures tallies { IfOk result (λ t. (i : ℕ) → slice_index_or (tallies_of t.entries.items) i no_calls ≡ no_calls) }
 {
@@ -71,7 +74,9 @@ fn table_of(alloc: Global, files: Vec<NamedBytes>) -> Result<Table, NoMemory>
 
 impl MemStore {
     ghost use Rattle.mem_store.specs.Memory.{held};
-    ghost use Rattle.mem_store.specs.Held.{IsListed, IsLate, IsFull, counted, struck, after_fault, after_write, after_set_len, asked, after_file_fault, added, content, Looks, Changes, IsNew, view, faults_at, calls_at};
+    ghost use Rattle.mem_store.specs.Held.{IsListed, IsLate, IsFull, counted, struck, after_fault, after_write};
+    ghost use Rattle.mem_store.specs.Held.{after_set_len, asked, after_file_fault, added, content, Looks, Changes};
+    ghost use Rattle.mem_store.specs.Held.{IsNew, view, faults_at, calls_at};
     ghost use Rattle.std.specs.List.{sum_by};
     ghost use Rattle.std.specs.Prelude.{true, false, None, Option};
     ghost use Rattle.mem_store.specs.Table.{lens_of, place_of};
@@ -170,8 +175,10 @@ impl MemStore {
     // Whether the room of bytes is passed where a file has `len` bytes and `more` were written.
     fn is_full_with(&self, i: usize, len: u64, more: u64) -> bool
         requires { i < length (held self.now).names }
-        ensures full { IsTrue result ↔ (self.now.room.bytes < sum_by length (held self.now).contents - length (content i (held self.now)) + len + (self.now.written + more)) }
-        ensures fits { result ≡ false → length self.now.table.bytes.items - slice_index (lens_of self.now.table.entries.items) i + len ≤ self.now.room.bytes }
+        ensures full { IsTrue result ↔ (self.now.room.bytes < sum_by length (held self.now).contents - length
+            (content i (held self.now)) + len + (self.now.written + more)) }
+        ensures fits { result ≡ false → length self.now.table.bytes.items - slice_index
+            (lens_of self.now.table.entries.items) i + len ≤ self.now.room.bytes }
     {
         let others = self.table.total() - self.table.len_at(i);
         let after = others as u128 + len as u128 + (self.written as u128 + more as u128);
@@ -183,10 +190,12 @@ impl MemStore {
     fn fails_with(&mut self, i: usize, op: Op, len: u64, more: u64) -> bool
         requires { i < length (held self.old).names }
         ensures told { IsTrue result ↔ ((IsListed op i (held self.old) ⊎ IsLate (held self.old))
-            ⊎ ((held self.old).room.bytes < sum_by length (held self.old).contents - length (content i (held self.old)) + len + ((held self.old).written + more))) }
+            ⊎ ((held self.old).room.bytes < sum_by length (held self.old).contents - length
+            (content i (held self.old)) + len + ((held self.old).written + more))) }
         ensures counted { held self.new ≡ counted op i (held self.old) }
         ensures entry { slice_index (lens_of self.new.table.entries.items) i ≡ length (content i (held self.old)) }
-        ensures fits { result ≡ false → length self.new.table.bytes.items - slice_index (lens_of self.new.table.entries.items) i + len ≤ self.new.room.bytes }
+        ensures fits { result ≡ false → length self.new.table.bytes.items - slice_index
+            (lens_of self.new.table.entries.items) i + len ≤ self.new.room.bytes }
         ensures written { result ≡ false → self.new.written + more < 2 ^ 64 }
     {
         let strikes = self.strikes(i, op);
@@ -209,7 +218,8 @@ impl MemStore {
     fn read_at(&mut self, i: usize, at: usize, out: &mut [u8]) -> Result<usize, Failed>
         requires { i < length (held self.old).names }
         ensures count { IfOk result (λ n. n ≤ length out.old) }
-        ensures bytes { IfOk result (λ n. take n out.new ≡ take (length out.old) (drop at (content i (held self.old)))) }
+        ensures bytes { IfOk result (λ n. take n out.new ≡ take (length out.old)
+            (drop at (content i (held self.old)))) }
         ensures exact { Looks Op.Read i (held self.old) (held self.new) result }
     {
         if self.strikes(i, Op::Read) {
@@ -221,7 +231,8 @@ impl MemStore {
     fn write_at(&mut self, i: usize, at: u64, piece: &[u8]) -> Result<(), Failed>
         requires within { i < length (held self.old).names }
         requires fits { at + length piece.now ≤ 2 ^ 49 }
-        ensures { Changes Op.Write i (held self.old) (after_write i at piece.now (held self.old)) (held self.new) result }
+        ensures { Changes Op.Write i (held self.old) (after_write i at piece.now (held self.old))
+            (held self.new) result }
     {
         let more = piece.len() as u64;
         let len = (self.table.len_at(i) as u64).max(at + more);
@@ -257,8 +268,10 @@ impl MemStore {
     fn ask(&mut self, name: &Name) -> Result<FileId, FileStop>
         ensures named { 0 < length name.now }
         ensures id { IfOk result (λ id. id.n ≡ place_of name.now (held self.old).names) }
-        ensures known { OnOk result (place_of name.now (held self.old).names < length (held self.old).names → held self.new ≡ asked (held self.old)) }
-        ensures new { OnOk result (place_of name.now (held self.old).names ≡ length (held self.old).names → held self.new ≡ added name.now (asked (held self.old))) }
+        ensures known { OnOk result (place_of name.now (held self.old).names < length (held self.old).names
+            → held self.new ≡ asked (held self.old)) }
+        ensures new { OnOk result (place_of name.now (held self.old).names ≡ length (held self.old).names
+            → held self.new ≡ added name.now (asked (held self.old))) }
         ensures late { (result ≡ Err FileStop.Failed) ↔ IsLate (held self.old) }
         ensures failed { result ≡ Err FileStop.Failed → held self.new ≡ after_file_fault (held self.old) }
         ensures no_memory { result ≡ Err FileStop.NoMemory → held self.new ≡ asked (held self.old) }
@@ -291,7 +304,8 @@ impl Store for MemStore {
     ghost use Rattle.std.proofs.lemmas.Bool.{false≢true};
     ghost use Rattle.mem_store.specs.Memory.{held};
     ghost use Rattle.mem_store.specs.Held.{view as view_of};
-    ghost use Rattle.mem_store.specs.Held.{IsLate, IsKnown, asked, after_file_fault, added, after_write, after_set_len, Looks, Changes};
+    ghost use Rattle.mem_store.specs.Held.{IsLate, IsKnown, asked, after_file_fault, added, after_write, after_set_len};
+    ghost use Rattle.mem_store.specs.Held.{Looks, Changes};
     ghost use Rattle.mem_store.specs.Laws.{are_ids, length-faults_of};
     ghost use Rattle.std.specs.Prelude.{Some, None, IsErr, IsErrOf, OnErr};
     ghost use Rattle.outside.specs.Store.{Calls, Gives, SameIds};
@@ -317,10 +331,12 @@ impl Store for MemStore {
     fn file(&mut self, name: &Name) -> Result<FileId, FileStop>
         ensures given { IfOk result (λ id. Gives name.now id.n (view_of (held self.old)) (view_of (held self.new))) }
         ensures same { OnErr result (SameIds (view_of (held self.old)) (view_of (held self.new))) }
-        ensures call { Calls true None (IsErrOf result FileStop.Failed) (λ _. ⊥) (view_of (held self.old)) (view_of (held self.new)) }
+        ensures call { Calls true None (IsErrOf result FileStop.Failed) (λ _. ⊥) (view_of (held self.old))
+            (view_of (held self.new)) }
         ensures cause { IsErrOf result FileStop.Failed ↔ IsLate (held self.old) }
         ensures known { OnOk result (IsKnown name.now (held self.old) → held self.new ≡ asked (held self.old)) }
-        ensures new { OnOk result ((¬ IsKnown name.now (held self.old)) → held self.new ≡ added name.now (asked (held self.old))) }
+        ensures new { OnOk result ((¬ IsKnown name.now (held self.old))
+            → held self.new ≡ added name.now (asked (held self.old))) }
         ensures failed { IsErrOf result FileStop.Failed → held self.new ≡ after_file_fault (held self.old) }
         ensures no_memory { IsErrOf result FileStop.NoMemory → held self.new ≡ asked (held self.old) }
     {
@@ -329,10 +345,12 @@ impl Store for MemStore {
 
     fn len(&mut self, id: FileId) -> Result<u64, Failed>
         requires given { 0 < length ((view_of (held self.old)).names id.n) }
-        ensures len { IfOk result (λ n. n ≡ length ((view_of (held self.old)).files ((view_of (held self.old)).names id.n))) }
+        ensures len { IfOk result (λ n. n ≡ length
+            ((view_of (held self.old)).files ((view_of (held self.old)).names id.n))) }
         ensures names { (view_of (held self.new)).names ≡ (view_of (held self.old)).names }
         ensures ids { (view_of (held self.new)).ids ≡ (view_of (held self.old)).ids }
-        ensures call { Calls true (Some id.n) (IsErr result) (λ _. ⊥) (view_of (held self.old)) (view_of (held self.new)) }
+        ensures call { Calls true (Some id.n) (IsErr result) (λ _. ⊥) (view_of (held self.old))
+            (view_of (held self.new)) }
         ensures exact { Looks Op.Len id.n (held self.old) (held self.new) result }
     {
         self.len_of(id.n as usize)
@@ -341,10 +359,12 @@ impl Store for MemStore {
     fn read(&mut self, id: FileId, at: u64, out: &mut [u8]) -> Result<usize, Failed>
         requires given { 0 < length ((view_of (held self.old)).names id.n) }
         ensures count { IfOk result (λ n. n ≤ length out.old) }
-        ensures bytes { IfOk result (λ n. take n out.new ≡ take (length out.old) (drop at ((view_of (held self.old)).files ((view_of (held self.old)).names id.n)))) }
+        ensures bytes { IfOk result (λ n. take n out.new ≡ take (length out.old)
+            (drop at ((view_of (held self.old)).files ((view_of (held self.old)).names id.n)))) }
         ensures names { (view_of (held self.new)).names ≡ (view_of (held self.old)).names }
         ensures ids { (view_of (held self.new)).ids ≡ (view_of (held self.old)).ids }
-        ensures call { Calls true (Some id.n) (IsErr result) (λ _. ⊥) (view_of (held self.old)) (view_of (held self.new)) }
+        ensures call { Calls true (Some id.n) (IsErr result) (λ _. ⊥) (view_of (held self.old))
+            (view_of (held self.new)) }
         ensures exact { Looks Op.Read id.n (held self.old) (held self.new) result }
     {
         self.read_at(id.n as usize, at as usize, out)
@@ -353,24 +373,34 @@ impl Store for MemStore {
     fn write(&mut self, id: FileId, at: u64, bytes: &[u8]) -> Result<(), Failed>
         requires given { 0 < length ((view_of (held self.old)).names id.n) }
         requires fits { at + length bytes.now ≤ 2 ^ 49 }
-        ensures written { OnOk result ((view_of (held self.new)).files ((view_of (held self.old)).names id.n) ≡ written at bytes.now ((view_of (held self.old)).files ((view_of (held self.old)).names id.n))) }
-        ensures failed { OnErr result ((view_of (held self.new)).files ((view_of (held self.old)).names id.n) ≡ ((view_of (held self.old)).files ((view_of (held self.old)).names id.n))) }
+        ensures written { OnOk result ((view_of (held self.new)).files
+            ((view_of (held self.old)).names id.n) ≡ written at bytes.now
+            ((view_of (held self.old)).files ((view_of (held self.old)).names id.n))) }
+        ensures failed { OnErr result ((view_of (held self.new)).files ((view_of (held self.old)).names id.n) ≡
+            ((view_of (held self.old)).files ((view_of (held self.old)).names id.n))) }
         ensures names { (view_of (held self.new)).names ≡ (view_of (held self.old)).names }
         ensures ids { (view_of (held self.new)).ids ≡ (view_of (held self.old)).ids }
-        ensures call { Calls true (Some id.n) (IsErr result) (λ q. q ≡ (view_of (held self.old)).names id.n) (view_of (held self.old)) (view_of (held self.new)) }
-        ensures exact { Changes Op.Write id.n (held self.old) (after_write id.n at bytes.now (held self.old)) (held self.new) result }
+        ensures call { Calls true (Some id.n) (IsErr result) (λ q. q ≡ (view_of (held self.old)).names id.n)
+            (view_of (held self.old)) (view_of (held self.new)) }
+        ensures exact { Changes Op.Write id.n (held self.old) (after_write id.n at bytes.now (held self.old))
+            (held self.new) result }
     {
         self.write_at(id.n as usize, at, bytes)
     }
 
     fn set_len(&mut self, id: FileId, n: u64) -> Result<(), Failed>
         requires given { 0 < length ((view_of (held self.old)).names id.n) }
-        ensures resized { OnOk result ((view_of (held self.new)).files ((view_of (held self.old)).names id.n) ≡ resized n ((view_of (held self.old)).files ((view_of (held self.old)).names id.n))) }
-        ensures failed { OnErr result ((view_of (held self.new)).files ((view_of (held self.old)).names id.n) ≡ ((view_of (held self.old)).files ((view_of (held self.old)).names id.n))) }
+        ensures resized { OnOk result ((view_of (held self.new)).files
+            ((view_of (held self.old)).names id.n) ≡ resized n
+            ((view_of (held self.old)).files ((view_of (held self.old)).names id.n))) }
+        ensures failed { OnErr result ((view_of (held self.new)).files ((view_of (held self.old)).names id.n) ≡
+            ((view_of (held self.old)).files ((view_of (held self.old)).names id.n))) }
         ensures names { (view_of (held self.new)).names ≡ (view_of (held self.old)).names }
         ensures ids { (view_of (held self.new)).ids ≡ (view_of (held self.old)).ids }
-        ensures call { Calls true (Some id.n) (IsErr result) (λ q. q ≡ (view_of (held self.old)).names id.n) (view_of (held self.old)) (view_of (held self.new)) }
-        ensures exact { Changes Op.SetLen id.n (held self.old) (after_set_len id.n n (held self.old)) (held self.new) result }
+        ensures call { Calls true (Some id.n) (IsErr result) (λ q. q ≡ (view_of (held self.old)).names id.n)
+            (view_of (held self.old)) (view_of (held self.new)) }
+        ensures exact { Changes Op.SetLen id.n (held self.old) (after_set_len id.n n (held self.old))
+            (held self.new) result }
     {
         self.resize(id.n as usize, n)
     }
@@ -379,7 +409,8 @@ impl Store for MemStore {
         requires given { 0 < length ((view_of (held self.old)).names id.n) }
         ensures names { (view_of (held self.new)).names ≡ (view_of (held self.old)).names }
         ensures ids { (view_of (held self.new)).ids ≡ (view_of (held self.old)).ids }
-        ensures call { Calls true (Some id.n) (IsErr result) (λ _. ⊥) (view_of (held self.old)) (view_of (held self.new)) }
+        ensures call { Calls true (Some id.n) (IsErr result) (λ _. ⊥) (view_of (held self.old))
+            (view_of (held self.new)) }
         ensures exact { Looks Op.Sync id.n (held self.old) (held self.new) result }
     {
         self.flush(id.n as usize)

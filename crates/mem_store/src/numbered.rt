@@ -1,4 +1,5 @@
-ghost use Rattle.std.specs.Prelude.{◌≡◌, ◌↔◌, ◌⊎◌, ◌+◌, ℕ, List, IsTrue, Any, if◌then◌else◌, take, drop, length, ◌-◌, ◌≤◌, min};
+ghost use Rattle.std.specs.Prelude.{◌≡◌, ◌↔◌, ◌⊎◌, ◌+◌, ℕ, List, IsTrue, Any, if◌then◌else◌, take, drop, length, ◌-◌};
+ghost use Rattle.std.specs.Prelude.{◌≤◌, min};
 ghost use Rattle.mem_store.specs.Table.{raised};
 
 use crate::tally::one_more;
@@ -34,7 +35,8 @@ impl Calls {
 
     /// Counts a call, which fails where it is listed or where `stops`, and then a fault.
     pub fn strikes(&mut self, stops: bool) -> bool
-        ensures cause { IsTrue result ↔ (Any (λ number. number ≡ self.old.made + 1) self.old.fails.items ⊎ IsTrue stops) }
+        ensures cause { IsTrue result ↔ (Any (λ number. number ≡ self.old.made + 1) self.old.fails.items
+            ⊎ IsTrue stops) }
         ensures made { self.new.made ≡ raised self.old.made }
         ensures fails { self.new.fails ≡ self.old.fails }
         ensures faults { self.new.faults ≡ (if result then raised self.old.faults else self.old.faults) }

@@ -1,4 +1,5 @@
-ghost use Rattle.std.specs.Prelude.{◌≡◌, ◌⊎◌, ◌+◌, ◌-◌, ◌≤◌, ◌<◌, ◌++◌, ℕ, List, [], length, take, min, IsTrue, IfOk, OnErr, true};
+ghost use Rattle.std.specs.Prelude.{◌≡◌, ◌⊎◌, ◌+◌, ◌-◌, ◌≤◌, ◌<◌, ◌++◌, ℕ, List, [], length, take, min, IsTrue, IfOk};
+ghost use Rattle.std.specs.Prelude.{OnErr, true};
 ghost use Rattle.outside.specs.Causes.{HasCause};
 ghost use Rattle.mem_store.specs.Ports.{Filled, Numbered, IsNext, IsAtEnd, Counts};
 
@@ -35,7 +36,16 @@ impl Model for VecSink {
 impl VecSink {
     /// A sink with room for so many bytes, of which the calls with these numbers fail, from 1.
     pub fn new(alloc: Global, room: u64, fails: Vec<u64>) -> Result<VecSink, NoMemory>
-        ensures { IfOk result (λ s. s ≡ record { written = []; room = room; calls = record { made = 0; fails = fails.items; faults = 0 } }) }
+        ensures { IfOk result (λ s. s ≡ record {
+          written = [];
+          room = room;
+          calls = record {
+            made = 0;
+            fails =
+                fails.items;
+            faults = 0;
+          };
+        }) }
     {
         match Vec::with_capacity(alloc, room as usize) {
             Ok(bytes) => Ok(VecSink {

@@ -1,7 +1,9 @@
-ghost use Rattle.std.specs.Prelude.{◌≡◌, ◌+◌, ◌-◌, ◌<◌, ◌≤◌, ◌^◌, ◌∷◌, ◌++◌, max, ℕ, List, [], length, take, drop, sum, slice_set, slice_index, slice_index_or, OnOk, OnErr, MatchOption, vec_capacity};
+ghost use Rattle.std.specs.Prelude.{◌≡◌, ◌+◌, ◌-◌, ◌<◌, ◌≤◌, ◌^◌, ◌∷◌, ◌++◌, max, ℕ, List, [], length, take, drop, sum};
+ghost use Rattle.std.specs.Prelude.{slice_set, slice_index, slice_index_or, OnOk, OnErr, MatchOption, vec_capacity};
 ghost use Rattle.std.specs.List.{sum_by};
 ghost use Rattle.outside.specs.Files.{written, resized};
-ghost use Rattle.mem_store.specs.Table.{names_of, lens_of, faults_of, tallies_of, contents_of, place_of, AreDistinct, AreNames, raised, made, tallied, no_calls};
+ghost use Rattle.mem_store.specs.Table.{names_of, lens_of, faults_of, tallies_of, contents_of, place_of, AreDistinct};
+ghost use Rattle.mem_store.specs.Table.{AreNames, raised, made, tallied, no_calls};
 
 use crate::arena::{overwrite, refit};
 use crate::find::place;
@@ -59,7 +61,8 @@ impl Table {
     /// The place of a name.
     pub fn find(&self, name: &Name) -> Option<usize>
         ensures some { 0 < length name.now }
-        ensures place { MatchOption result (place_of name.now (names_of self.now.entries.items) ≡ length self.now.entries.items)
+        ensures place { MatchOption result (place_of name.now
+            (names_of self.now.entries.items) ≡ length self.now.entries.items)
             (λ i. (i < length self.now.entries.items) × (place_of name.now (names_of self.now.entries.items) ≡ i)) }
     {
         let _text = name.as_slice();
@@ -98,7 +101,8 @@ impl Table {
         ensures names { OnOk result (names_of self.new.entries.items ≡ names_of self.old.entries.items ++ name ∷ []) }
         ensures lens { OnOk result (lens_of self.new.entries.items ≡ lens_of self.old.entries.items ++ 0 ∷ []) }
         ensures faults { OnOk result (faults_of self.new.entries.items ≡ faults_of self.old.entries.items ++ 0 ∷ []) }
-        ensures tallies { OnOk result (tallies_of self.new.entries.items ≡ tallies_of self.old.entries.items ++ no_calls ∷ []) }
+        ensures tallies { OnOk result (tallies_of self.new.entries.items ≡ tallies_of self.old.entries.items ++
+            no_calls ∷ []) }
         ensures err { OnErr result (self.new.entries.items ≡ self.old.entries.items) }
         ensures bytes { self.new.bytes ≡ self.old.bytes }
     {
@@ -117,12 +121,14 @@ impl Table {
     /// Gives a file this length: cut, or with zeros behind.
     pub fn set_len(&mut self, i: usize, n: usize)
         requires within { i < length self.old.entries.items }
-        requires room { length self.old.bytes.items - slice_index (lens_of self.old.entries.items) i + n ≤ vec_capacity self.old.bytes }
+        requires room { length self.old.bytes.items - slice_index
+            (lens_of self.old.entries.items) i + n ≤ vec_capacity self.old.bytes }
         ensures names { names_of self.new.entries.items ≡ names_of self.old.entries.items }
         ensures faults { faults_of self.new.entries.items ≡ faults_of self.old.entries.items }
         ensures tallies { tallies_of self.new.entries.items ≡ tallies_of self.old.entries.items }
         ensures contents { contents_of self.new.entries.items self.new.bytes.items
-            ≡ slice_set (contents_of self.old.entries.items self.old.bytes.items) i (resized n (slice_index_or (contents_of self.old.entries.items self.old.bytes.items) i [])) }
+            ≡ slice_set (contents_of self.old.entries.items self.old.bytes.items) i
+            (resized n (slice_index_or (contents_of self.old.entries.items self.old.bytes.items) i [])) }
         ensures capacity { vec_capacity self.old.bytes ≤ vec_capacity self.new.bytes }
     {
         let start = self.start(i);
@@ -135,12 +141,14 @@ impl Table {
     pub fn write(&mut self, i: usize, at: usize, piece: &[u8])
         requires within { i < length self.old.entries.items }
         requires end { at + length piece.now < 2 ^ 64 }
-        requires room { length self.old.bytes.items - slice_index (lens_of self.old.entries.items) i + max (slice_index (lens_of self.old.entries.items) i) (at + length piece.now) ≤ vec_capacity self.old.bytes }
+        requires room { length self.old.bytes.items - slice_index (lens_of self.old.entries.items) i + max
+            (slice_index (lens_of self.old.entries.items) i) (at + length piece.now) ≤ vec_capacity self.old.bytes }
         ensures names { names_of self.new.entries.items ≡ names_of self.old.entries.items }
         ensures faults { faults_of self.new.entries.items ≡ faults_of self.old.entries.items }
         ensures tallies { tallies_of self.new.entries.items ≡ tallies_of self.old.entries.items }
         ensures contents { contents_of self.new.entries.items self.new.bytes.items
-            ≡ slice_set (contents_of self.old.entries.items self.old.bytes.items) i (written at piece.now (slice_index_or (contents_of self.old.entries.items self.old.bytes.items) i [])) }
+            ≡ slice_set (contents_of self.old.entries.items self.old.bytes.items) i
+            (written at piece.now (slice_index_or (contents_of self.old.entries.items self.old.bytes.items) i [])) }
         ensures capacity { vec_capacity self.old.bytes ≤ vec_capacity self.new.bytes }
     {
         let start = self.start(i);
@@ -155,7 +163,8 @@ impl Table {
         ensures names { names_of self.new.entries.items ≡ names_of self.old.entries.items }
         ensures lens { lens_of self.new.entries.items ≡ lens_of self.old.entries.items }
         ensures tallies { tallies_of self.new.entries.items ≡ tallies_of self.old.entries.items }
-        ensures faults { faults_of self.new.entries.items ≡ slice_set (faults_of self.old.entries.items) i (raised (slice_index (faults_of self.old.entries.items) i)) }
+        ensures faults { faults_of self.new.entries.items ≡ slice_set (faults_of self.old.entries.items) i
+            (raised (slice_index (faults_of self.old.entries.items) i)) }
         ensures bytes { self.new.bytes ≡ self.old.bytes }
     {
         self.entries[i].faults = one_more(self.entries[i].faults);
@@ -167,7 +176,8 @@ impl Table {
         ensures names { names_of self.new.entries.items ≡ names_of self.old.entries.items }
         ensures lens { lens_of self.new.entries.items ≡ lens_of self.old.entries.items }
         ensures faults { faults_of self.new.entries.items ≡ faults_of self.old.entries.items }
-        ensures tallies { tallies_of self.new.entries.items ≡ slice_set (tallies_of self.old.entries.items) i (tallied op (slice_index_or (tallies_of self.old.entries.items) i no_calls)) }
+        ensures tallies { tallies_of self.new.entries.items ≡ slice_set (tallies_of self.old.entries.items) i
+            (tallied op (slice_index_or (tallies_of self.old.entries.items) i no_calls)) }
         ensures bytes { self.new.bytes ≡ self.old.bytes }
     {
         self.entries[i].made = self.entries[i].made.with(op);
@@ -225,8 +235,10 @@ impl Table {
         requires named { 0 < length name }
         ensures names { OnOk result (names_of self.new.entries.items ≡ names_of self.old.entries.items ++ name ∷ []) }
         ensures faults { OnOk result (faults_of self.new.entries.items ≡ faults_of self.old.entries.items ++ 0 ∷ []) }
-        ensures tallies { OnOk result (tallies_of self.new.entries.items ≡ tallies_of self.old.entries.items ++ no_calls ∷ []) }
-        ensures contents { OnOk result (contents_of self.new.entries.items self.new.bytes.items ≡ contents_of self.old.entries.items self.old.bytes.items ++ bytes.now ∷ []) }
+        ensures tallies { OnOk result (tallies_of self.new.entries.items ≡ tallies_of self.old.entries.items ++
+            no_calls ∷ []) }
+        ensures contents { OnOk result (contents_of self.new.entries.items self.new.bytes.items ≡ contents_of
+            self.old.entries.items self.old.bytes.items ++ bytes.now ∷ []) }
     {
         let total = self.bytes.len();
         let n = bytes.len();

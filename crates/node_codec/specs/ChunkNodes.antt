@@ -61,12 +61,14 @@ pub record FitsChunkNode (k rank : ℕ) (n : ChunkNode) : Type 0 where
 
 -- a key as it is written
 abbrev pub chunk_key_bytes : ChunkKey → List ℕ
-chunk_key_bytes key = to_le_bytes w32 key.bytes ++ to_le_bytes w32 key.mask ++ u64s_bytes key.offset ++ to_le_bytes w64 0
+chunk_key_bytes key = to_le_bytes w32 key.bytes ++ to_le_bytes w32 key.mask ++ u64s_bytes key.offset ++ to_le_bytes w64
+    0
 
 -- the block that is written: unused cells are 0, and so is each key's offset within the element
 unfoldable pub chunk_node_bytes : ℕ → ℕ → ChunkNode → List ℕ
 chunk_node_bytes k rank n =
-    padded (chunk_node_len k rank) (tree_head 1 n.level (length n.children) n.left n.right ++ woven (map chunk_key_bytes n.keys) (map (to_le_bytes w64) n.children))
+    padded (chunk_node_len k rank) (tree_head 1 n.level (length n.children) n.left n.right ++ woven
+    (map chunk_key_bytes n.keys) (map (to_le_bytes w64) n.children))
 
 -- the numbers fit their types
 pub record KeyInRange (key : ChunkKey) : Type 0 where

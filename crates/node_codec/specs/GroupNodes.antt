@@ -34,4 +34,5 @@ pub record FitsGroupNode (k : ℕ) (n : GroupNode) : Type 0 where
 -- the block that is written: unused cells are 0
 unfoldable pub group_node_bytes : ℕ → GroupNode → List ℕ
 group_node_bytes k n =
-    padded (group_node_len k) (tree_head 0 n.level (length n.children) n.left n.right ++ woven (map (to_le_bytes w64) n.keys) (map (to_le_bytes w64) n.children))
+    padded (group_node_len k) (tree_head 0 n.level (length n.children) n.left n.right ++ woven
+    (map (to_le_bytes w64) n.keys) (map (to_le_bytes w64) n.children))

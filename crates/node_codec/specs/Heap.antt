@@ -31,7 +31,8 @@ pub record SpellsHeap (h : HeapHead) (b : List ℕ) : Type 0 where
 -- the block that is written: reserved bytes are 0
 unfoldable pub heap_bytes : HeapHead → List ℕ
 heap_bytes h =
-    heap_signature ++ (0 ∷ 0 ∷ 0 ∷ 0 ∷ []) ++ to_le_bytes w64 h.len ++ to_le_bytes w64 h.free ++ to_le_bytes w64 h.segment_at
+    heap_signature ++ (0 ∷ 0 ∷ 0 ∷ 0 ∷ []) ++ to_le_bytes w64 h.len ++ to_le_bytes w64 h.free ++ to_le_bytes w64
+    h.segment_at
 
 -- the numbers fit their types
 pub record HeapInRange (h : HeapHead) : Type 0 where

@@ -1,6 +1,7 @@
 -- The symbol table node, by the HDF5 File Format Specification 3.0, III.B and III.C.
 -- Cited by `read_snod`, `write_snod` and whatever says what a group's blocks hold.
-use Rattle.std.specs.Prelude.{◌≡◌, ℕ, ◌+◌, ◌*◌, ◌^◌, ◌<◌, ◌≤◌, List, [], ◌∷◌, ◌++◌, length, take, drop, map, flat_map, slice_index, All}
+use Rattle.std.specs.Prelude.{◌≡◌, ℕ, ◌+◌, ◌*◌, ◌^◌, ◌<◌, ◌≤◌, List, [], ◌∷◌, ◌++◌, length, take, drop, map, flat_map}
+use Rattle.std.specs.Prelude.{slice_index, All}
 use Rattle.std.specs.Int.{w16, w32, w64, to_le_bytes}
 use Rattle.h5_base.specs.Fields.{u16_at, u32_at, u64_at}
 use Rattle.node_codec.specs.Cells.{cells, padded}
@@ -57,11 +58,13 @@ pub record FitsSnod (k : ℕ) (es : List SnodEntry) : Type 0 where
 -- an entry as it is written: reserved bytes are 0
 abbrev pub entry_bytes : SnodEntry → List ℕ
 entry_bytes e =
-    to_le_bytes w64 e.name_at ++ to_le_bytes w64 e.header_at ++ to_le_bytes w32 e.cache ++ (0 ∷ 0 ∷ 0 ∷ 0 ∷ []) ++ to_le_bytes w64 e.tree_at ++ to_le_bytes w64 e.heap_at
+    to_le_bytes w64 e.name_at ++ to_le_bytes w64 e.header_at ++ to_le_bytes w32 e.cache ++
+    (0 ∷ 0 ∷ 0 ∷ 0 ∷ []) ++ to_le_bytes w64 e.tree_at ++ to_le_bytes w64 e.heap_at
 
 -- the block that is written: reserved bytes and unused cells are 0
 unfoldable pub snod_bytes : ℕ → List SnodEntry → List ℕ
-snod_bytes k es = padded (snod_len k) (snod_signature ++ (1 ∷ 0 ∷ []) ++ to_le_bytes w16 (length es) ++ flat_map entry_bytes es)
+snod_bytes k es = padded (snod_len k) (snod_signature ++ (1 ∷ 0 ∷ []) ++ to_le_bytes w16
+    (length es) ++ flat_map entry_bytes es)
 
 -- the numbers fit their types
 pub record EntryInRange (e : SnodEntry) : Type 0 where

@@ -3,7 +3,9 @@ ghost use Rattle.std.specs.Int.{w64, to_le_bytes};
 ghost use Rattle.h5_base.specs.Fields.{Puts};
 ghost use Rattle.node_codec.specs.Cells.{woven};
 ghost use Rattle.node_codec.specs.TreeHead.{IsU64};
-ghost use Rattle.node_codec.specs.ChunkNodes.{SpellsChunkNode, FitsChunkNode, IsWholeElement, HasRank, KeyInRange, chunk_key_of, chunk_key_len, key_cells, chunk_key_bytes, chunk_node_len, chunk_node_bytes};
+ghost use Rattle.node_codec.specs.ChunkNodes.{SpellsChunkNode, FitsChunkNode, IsWholeElement, HasRank, KeyInRange};
+ghost use Rattle.node_codec.specs.ChunkNodes.{chunk_key_of, chunk_key_len, key_cells, chunk_key_bytes, chunk_node_len};
+ghost use Rattle.node_codec.specs.ChunkNodes.{chunk_node_bytes};
 
 use crate::tree_head::{is_tree_node, put_tree_head};
 use dtype::Dims;
@@ -23,8 +25,8 @@ pub struct ChunkKey {
     pub offset: Dims,
 }
 
-/// A node of the B-tree of a dataset's chunks (HDF5 File Format Specification 3.0, III.A.1). It has one key more than it
-/// has children.
+/// A node of the B-tree of a dataset's chunks (HDF5 File Format Specification 3.0, III.A.1). It has one key more than
+/// it has children.
 #[derive(Debug, Drop)]
 pub struct ChunkNode {
     /// 0 where the children are chunks, else one more than the children's level.
@@ -141,7 +143,8 @@ pub fn read_chunk_node(
 /// Writes a key of these parts from `at` on, with 0 for the offset within the element; the rest stays.
 fn put_parts(out: &mut [u8], at: usize, bytes: u32, mask: u32, offset: &[u64])
     requires { at + chunk_key_len (length offset.now) ≤ length out.old }
-    ensures put { Puts out.old out.new at (chunk_key_bytes (record { bytes = bytes; mask = mask; offset = offset.now })) }
+    ensures put { Puts out.old out.new at (chunk_key_bytes
+        (record { bytes = bytes; mask = mask; offset = offset.now })) }
     ensures range { KeyInRange (record { bytes = bytes; mask = mask; offset = offset.now }) }
 {
     put_u32(out, at, bytes);

@@ -65,7 +65,8 @@ pub fn read_group_node(alloc: Global, bytes: &[u8], k: u16) -> Result<GroupNode,
 fn put_links(out: &mut [u8], at: usize, keys: &[u64], children: &[u64])
     requires one_more { length keys.now ≡ length children.now + 1 }
     requires room { at + 16 * length children.now + 8 ≤ length out.old }
-    ensures put { Puts out.old out.new at (woven (map (to_le_bytes w64) keys.now) (map (to_le_bytes w64) children.now)) }
+    ensures put { Puts out.old out.new at (woven (map (to_le_bytes w64) keys.now)
+        (map (to_le_bytes w64) children.now)) }
     ensures keys { All IsU64 keys.now }
     ensures children { All IsU64 children.now }
 {

@@ -1,6 +1,7 @@
 ghost use Rattle.std.specs.Prelude.{◌≡◌, ◌+◌, ◌*◌, ◌≤◌, ◌↔◌, List, length, flat_map, All, IsTrue, IfOk};
 ghost use Rattle.h5_base.specs.Fields.{bytes_at, Puts};
-ghost use Rattle.node_codec.specs.Snod.{SpellsSnod, FitsSnod, soft_value_at, IsSnod, IsCache, EntryInRange, entry_of, entries_of, entry_bytes, snod_bytes, snod_len};
+ghost use Rattle.node_codec.specs.Snod.{SpellsSnod, FitsSnod, soft_value_at, IsSnod, IsCache, EntryInRange, entry_of};
+ghost use Rattle.node_codec.specs.Snod.{entries_of, entry_bytes, snod_bytes, snod_len};
 
 use h5_base::{CodecStop, put_bytes, put_u16, put_u32, put_u64, u16_of, u32_of, u64_of};
 use std::alloc::Global;
@@ -85,7 +86,8 @@ fn read_entries(alloc: Global, bytes: &[u8], count: usize) -> Result<Vec<SnodEnt
 
 /// The entries of the symbol table node that the whole block spells, which has room for 2k of them (HDF5 File Format
 /// Specification 3.0, III.B). `NotThis` comes exactly where it spells none: another length, signature or version, more
-/// than 2k entries, or a cache type other than 0, 1 and 2. Reserved bytes and cells past the used ones aren't looked at.
+/// than 2k entries, or a cache type other than 0, 1 and 2. Reserved bytes and cells past the used ones aren't looked
+/// at.
 pub fn read_snod(alloc: Global, bytes: &[u8], k: u16) -> Result<Vec<SnodEntry>, CodecStop>
     // What is read is spelled.
     ensures found { IfOk result (λ v. SpellsSnod k v.items bytes.now) }

@@ -24,6 +24,7 @@ pub record Gathers (kept : Firsts) (ms : List Met) : Type 0 where
 abbrev pub IsKind : List Met → ObjectKind → Type 0
 IsKind ms (Group tree heap) = IsGroupHeader ms tree heap
 IsKind ms (Dataset shape elem fill layout filtered) =
-    (i : DataInfo) × IsDataHeader ms i × (i.shape ≡ shape) × (i.elem ≡ elem) × (i.layout ≡ layout) × (i.filtered ≡ filtered)
+    (i : DataInfo) × IsDataHeader ms i × (i.shape ≡ shape) × (i.elem ≡ elem) × (i.layout ≡ layout)
+    × (i.filtered ≡ filtered)
     × (fill_bytes (size_of elem) fill ≡ i.fill)
 IsKind ms Other = IsOtherHeader ms

@@ -56,5 +56,6 @@ pub record AreParts (kept : Firsts) (shape : Shape) (elem : ElemType) (fill : Fi
 
 abbrev pub TellsData : Firsts → ObjectKind → Type 0
 TellsData kept (kind.Group tree heap) = ⊥
-TellsData kept (kind.Dataset shape elem fill layout filtered) = AreParts kept shape elem fill layout × (filtered ≡ kept.filters)
+TellsData kept (kind.Dataset shape elem fill layout filtered) = AreParts kept shape elem fill layout
+    × (filtered ≡ kept.filters)
 TellsData kept kind.Other = ⊥

@@ -38,7 +38,8 @@ pub(crate) fn keep(
     flags: u8,
     body: &[u8],
 ) -> Result<(), NoMemory>
-    ensures kept { OnOk result ((kind : ℕ) → met_of kind place.new ≡ or_first (met_of kind place.old) (record { kind = kind; flags = flags; body = body.now })) }
+    ensures kept { OnOk result ((kind : ℕ) → met_of kind place.new ≡ or_first (met_of kind place.old)
+        (record { kind = kind; flags = flags; body = body.now })) }
     ensures same { OnErr result (place.new ≡ place.old) }
 {
     if place.is_none() {

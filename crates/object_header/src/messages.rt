@@ -77,7 +77,8 @@ impl Messages {
     /// count, and then only of the first message of their type.
     pub fn meet(&mut self, alloc: Global, kind: u16, flags: u8, body: &[u8]) -> Result<(), NoMemory>
         // It is one message more.
-        ensures ok { OnOk result ((ms : List Met) → Gathers self.old ms → Gathers self.new (ms ++ record { kind = kind; flags = flags; body = body.now } ∷ [])) }
+        ensures ok { OnOk result ((ms : List Met) → Gathers self.old ms
+            → Gathers self.new (ms ++ record { kind = kind; flags = flags; body = body.now } ∷ [])) }
         // Without memory the message isn't met.
         ensures same { OnErr result ((ms : List Met) → Gathers self.old ms → Gathers self.new ms) }
     {
@@ -123,7 +124,8 @@ impl Messages {
     // The dataset that the messages make; `Other` where they make none.
     fn dataset(&self, alloc: Global) -> Result<ObjectKind, PartStop>
         ensures found { IfOk result (λ k. TellsData self.now k) }
-        ensures other { result ≡ Err PartStop.Other → (shape : Shape) → (elem : ElemType) → (fill : Fill) → (layout : Layout) → AreParts self.now shape elem fill layout → ⊥ }
+        ensures other { result ≡ Err PartStop.Other → (shape : Shape) → (elem : ElemType) → (fill : Fill)
+            → (layout : Layout) → AreParts self.now shape elem fill layout → ⊥ }
     {
         if self.files {
             return Err(PartStop::Other);

@@ -1,6 +1,7 @@
 -- Boxes of indices, and the row-major order of the indices of a dataset.
 -- Cited by the elements of a dataset, in the tree and in a file.
-use Rattle.std.specs.Prelude.{ℕ, ◌+◌, ◌-◌, ◌*◌, ◌/◌, Bool, true, false, ◌&&◌, nat_le, nat_lt, List, [], ◌∷◌, map, length, ◌==◌}
+use Rattle.std.specs.Prelude.{ℕ, ◌+◌, ◌-◌, ◌*◌, ◌/◌, Bool, true, false, ◌&&◌, nat_le, nat_lt, List, [], ◌∷◌, map}
+use Rattle.std.specs.Prelude.{length, ◌==◌}
 use Rattle.std.specs.List.{flat_map, range_with_len}
 use Rattle.dtype.specs.Products.{product}
 

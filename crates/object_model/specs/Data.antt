@@ -34,7 +34,10 @@ read_box d start count = map (λ i. element d (plus start i)) (indices count)
 -- the elements of the box replaced by these, in row-major order, and all others as before
 abbrev pub write_box : Data → List ℕ → List ℕ → List (List ℕ) → Data
 write_box d start count values =
-    record d { elements = elements_by d.dims (λ i. if in_box start count i then slice_index_or values (place count (minus i start)) [] else element d i) }
+    record d {
+      elements = elements_by d.dims (λ i. if in_box start count i then slice_index_or values
+          (place count (minus i start)) [] else element d i);
+    }
 
 -- greater sizes: each element at its index, and the fill at new indices
 abbrev pub grow : Data → List ℕ → Data

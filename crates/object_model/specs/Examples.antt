@@ -10,7 +10,8 @@ use Rattle.object_model.specs.declared.command.Command.TheVariants as command
 use Rattle.object_model.specs.declared.answer.Answer.{Answer}
 use Rattle.object_model.specs.declared.answer.Answer.TheVariants as answer
 use Rattle.object_model.specs.declared.answer.Code.{Code}
-use Rattle.object_model.specs.declared.answer.Code.TheVariants.{Exists, NotEmpty, WrongType, Range, Absent, NotGroup, Shrink, Fixed}
+use Rattle.object_model.specs.declared.answer.Code.TheVariants.{Exists, NotEmpty, WrongType, Range, Absent, NotGroup}
+use Rattle.object_model.specs.declared.answer.Code.TheVariants.{Shrink, Fixed}
 use Rattle.object_model.specs.Step.{Stack, Reply, Gives, new_group, joined, replies}
 
 abbrev pub plain : Stack
@@ -51,7 +52,8 @@ number n = value.Num (pos n)
 abbrev pub Groups : Type 0
 Groups =
     replies plain new_group
-    (command.Mkgroup (g ∷ []) ∷ command.Mkgroup (g ∷ []) ∷ command.Mkgroup (g ∷ h ∷ []) ∷ command.Rm (g ∷ []) ∷ command.Rm (g ∷ h ∷ []) ∷ command.Rm (g ∷ []) ∷ command.Ls [] ∷ [])
+    (command.Mkgroup (g ∷ []) ∷ command.Mkgroup (g ∷ []) ∷ command.Mkgroup (g ∷ h ∷ []) ∷ command.Rm
+    (g ∷ []) ∷ command.Rm (g ∷ h ∷ []) ∷ command.Rm (g ∷ []) ∷ command.Ls [] ∷ [])
     ≡ ok ∷ no Exists ∷ ok ∷ no NotEmpty ∷ ok ∷ ok ∷ gives (answer.Links []) ∷ []
 
 -- so many times the bytes of 7
@@ -80,7 +82,8 @@ Boxes =
 abbrev pub Growth : Type 0
 Growth =
     replies plain new_group
-    (written ++ command.Extend (m ∷ []) (6 ∷ 7 ∷ []) ∷ command.Read (m ∷ []) (4 ∷ 4 ∷ []) (2 ∷ 3 ∷ []) ∷ command.Extend (m ∷ []) (5 ∷ 7 ∷ []) ∷ [])
+    (written ++ command.Extend (m ∷ []) (6 ∷ 7 ∷ []) ∷ command.Read (m ∷ []) (4 ∷ 4 ∷ []) (2 ∷ 3 ∷ []) ∷ command.Extend
+    (m ∷ []) (5 ∷ 7 ∷ []) ∷ [])
     ≡ ok ∷ ok ∷ ok ∷ gives (answer.Values int (nine ++ sevens 5)) ∷ no Shrink ∷ []
 
 -- mkdata /b u8le 2, write /b 0 1 256, write /b 0 2 1, write /b 1 2 1 2, write /q 0 1 1, write /b/q 0 1 1, extend /b 4

@@ -1,6 +1,8 @@
 -- What a command does to the tree, and what it answers.
 -- Cited by the laws of this crate, by the script language and by the run of a script.
-use Rattle.std.specs.Prelude.{ℕ, Bool, true, false, not, ◌&&◌, ◌==◌, ◌+◌, ◌-◌, ◌*◌, ◌^◌, nat_le, ℤ, pos, neg_ℤ, int_lt, List, [], ◌∷◌, length, map, replicate, Option, Some, None, is_none, is_some, unwrap_or, Result, Ok, Err, if◌then◌else◌}
+use Rattle.std.specs.Prelude.{ℕ, Bool, true, false, not, ◌&&◌, ◌==◌, ◌+◌, ◌-◌, ◌*◌, ◌^◌, nat_le, ℤ, pos, neg_ℤ, int_lt}
+use Rattle.std.specs.Prelude.{List, [], ◌∷◌, length, map, replicate, Option, Some, None, is_none, is_some, unwrap_or}
+use Rattle.std.specs.Prelude.{Result, Ok, Err, if◌then◌else◌}
 use Rattle.std.specs.List.{flat_map, list_all}
 use Rattle.dtype.specs.Products.{product}
 use Rattle.dtype.specs.Types.{size_of}
@@ -17,10 +19,13 @@ use Rattle.object_model.specs.declared.answer.LinkLine.{LinkLine}
 use Rattle.object_model.specs.declared.answer.Shown.{Shown}
 use Rattle.object_model.specs.declared.answer.Shown.TheVariants as shown
 use Rattle.object_model.specs.declared.answer.Code.{Code}
-use Rattle.object_model.specs.declared.answer.Code.TheVariants.{ReadOnly, NotGroup, Exists, NotData, Unsupported, Filtered, Range, WrongType, Fixed, Shrink, NotEmpty, NoOnion}
+use Rattle.object_model.specs.declared.answer.Code.TheVariants.{ReadOnly, NotGroup, Exists, NotData, Unsupported}
+use Rattle.object_model.specs.declared.answer.Code.TheVariants.{Filtered, Range, WrongType, Fixed, Shrink, NotEmpty}
+use Rattle.object_model.specs.declared.answer.Code.TheVariants.{NoOnion}
 use Rattle.object_model.specs.Boxes.{all_le, same_rank}
 use Rattle.object_model.specs.Data.{Data, elements_by, fits_box, read_box, write_box, grow}
-use Rattle.object_model.specs.Tree.{Tree, Group, Leaf, Links, Empty, Link, Name, find, child, walk, edit, relink, insert, remove, dir_of, last_of, ◌>>=◌}
+use Rattle.object_model.specs.Tree.{Tree, Group, Leaf, Links, Empty, Link, Name, find, child, walk, edit, relink}
+use Rattle.object_model.specs.Tree.{insert, remove, dir_of, last_of, ◌>>=◌}
 
 -- what a link leads to besides groups
 pub data Object : Type 0 where
@@ -137,13 +142,15 @@ Outcome = Result (Plain × Reply) Code
 abbrev pub add : List Name → Plain → Plain → Outcome
 add p new t =
     walk t (dir_of p) >>= λ dir. links_of dir >>= λ ls.
-    unless (is_some (find ls (last_of p))) Exists (Ok (edit (dir_of p) (relink (λ old. insert old (last_of p) new)) t, Gives answer.Done))
+    unless (is_some (find ls (last_of p))) Exists
+    (Ok (edit (dir_of p) (relink (λ old. insert old (last_of p) new)) t, Gives answer.Done))
 
 -- The new tree and what comes of it, or the first refusal, with which the tree stays. The refusals that depend on more
 -- than the tree (a limit, a region without room, the clock) come after these, in each command's order.
 abbrev pub step : Stack → Plain → Command → Outcome
 step s t (command.Mkgroup p) = unless s.read_only ReadOnly (add p new_group t)
-step s t (command.Mkdata p elem dims chunk max fill) = unless s.read_only ReadOnly (add p (Leaf (Dataset (new_data elem dims chunk max fill))) t)
+step s t (command.Mkdata p elem dims chunk max fill) = unless s.read_only ReadOnly
+    (add p (Leaf (Dataset (new_data elem dims chunk max fill))) t)
 step s t (command.Write p start count values) =
     unless s.read_only ReadOnly
     (walk t p >>= λ node. data_of node >>= λ d.
@@ -168,7 +175,8 @@ step s t (command.Rm p) =
     (walk t (dir_of p) >>= λ dir. child dir (last_of p) >>= λ old.
     unless (has_links old) NotEmpty (Ok (edit (dir_of p) (relink (λ ls. remove ls (last_of p))) t, Gives answer.Done)))
 step s t command.Flush = unless s.read_only ReadOnly (Ok (t, Gives answer.Done))
-step s t (command.Commit comment) = unless s.read_only ReadOnly (unless (not s.has_revisions) NoOnion (Ok (t, Commits comment)))
+step s t (command.Commit comment) = unless s.read_only ReadOnly
+    (unless (not s.has_revisions) NoOnion (Ok (t, Commits comment)))
 
 -- the tree after a command, and what it was answered where that is the tree's
 abbrev pub after : Outcome → Plain → Plain

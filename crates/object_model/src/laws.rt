@@ -2,7 +2,8 @@
 //! clause is the law.
 
 ghost use Rattle.object_model.specs.Examples.{Groups, Boxes, Growth, Refusals};
-ghost use Rattle.object_model.specs.Laws.{TestsValues, ReadsWritten, KeepsOthers, KeepsElements, FillsNew, KeepsOrder, ListsNewGroup, FindsInserted, FindsOthers, AnswersWritten};
+ghost use Rattle.object_model.specs.Laws.{TestsValues, ReadsWritten, KeepsOthers, KeepsElements, FillsNew, KeepsOrder};
+ghost use Rattle.object_model.specs.Laws.{ListsNewGroup, FindsInserted, FindsOthers, AnswersWritten};
 
 /// The step's test of what a type can hold is right.
 pub fn tests_values()

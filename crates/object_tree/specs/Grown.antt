@@ -8,7 +8,8 @@ use Rattle.header_codec.specs.declared.types.Prefix.{Prefix}
 use Rattle.file_model.specs.Headers.{Part, IsHeader, header_blocks, messages_of}
 use Rattle.file_model.specs.Objects.{IsGroupHeader}
 use Rattle.file_model.specs.Groups.{Ks, Found, Target, Header, HasLinks}
-use Rattle.file_model.specs.Holds.{LeafAt, Full, FullLinks, IsHeld, AreHeld, IsLeafHeld, leaf_target, leaf_blocks, target_of as full_target}
+use Rattle.file_model.specs.Holds.{LeafAt, Full, FullLinks, IsHeld, AreHeld, IsLeafHeld, leaf_target, leaf_blocks}
+use Rattle.file_model.specs.Holds.{target_of as full_target}
 use Rattle.file_model.specs.Limits.{most_header, header_bytes, LeafFits, Fits, AllFit, depth_to, depth_in}
 use Rattle.file_model.specs.Refusals.{Refusal}
 use Rattle.file_model.specs.RefusedGroups.{IsTableRefused}
@@ -20,14 +21,16 @@ use Rattle.tree_nodes.specs.declared.node.Node.TheVariants as node
 use Rattle.tree_nodes.specs.declared.tree.ObjectTree.{ObjectTree}
 use Rattle.tree_nodes.specs.Nodes.{Kept, bare, is_group, child_link, link_names, insert_link}
 use Rattle.tree_nodes.specs.Entries.{superblock_of, root_of, entry_of, object_count}
-use Rattle.tree_nodes.specs.Shown.{Keyed, KeyedLinks, key_of, child_links, objects_of, objects_below, HasKey, HasKeyBelow, AreDistinct, AreDistinctBelow, AreKept, AreKeptBelow}
+use Rattle.tree_nodes.specs.Shown.{Keyed, KeyedLinks, key_of, child_links, objects_of, objects_below, HasKey}
+use Rattle.tree_nodes.specs.Shown.{HasKeyBelow, AreDistinct, AreDistinctBelow, AreKept, AreKeptBelow}
 use Rattle.object_tree.specs.Opened.{IsLeafNode, Matches, MatchesLinks}
 
 -- What stands under a key had no links, and has these now; all below them is new, and nothing else changed.
 pub record Grows (old new : ObjectTree) (key : ℕ) (links : KeyedLinks) : Type 0 where
   pub superblock : superblock_of new ≡ superblock_of old
   pub root : root_of new ≡ root_of old
-  pub here : (n : Node) → entry_of old key ≡ Some (record { node = n; links = [] }) → entry_of new key ≡ Some (record { node = n; links = child_links links })
+  pub here : (n : Node) → entry_of old key ≡ Some (record { node = n; links = [] })
+      → entry_of new key ≡ Some (record { node = n; links = child_links links })
   pub kept : AreKeptBelow (entry_of new) links
   pub distinct : AreDistinctBelow links
   pub fresh : (k : ℕ) → HasKeyBelow links k → entry_of old k ≡ None
@@ -36,14 +39,17 @@ pub record Grows (old new : ObjectTree) (key : ℕ) (links : KeyedLinks) : Type 
 
 -- an object's node that is no group's, with all that lies in the file for it
 abbrev pub IsLeafFound : Array → Ks → ℕ → Node → List Block → Type 0
-IsLeafFound b ks at n own = (l : LeafAt) × IsLeafNode n l × IsLeafHeld b ks l × (leaf_target l ≡ Header at) × (leaf_blocks l ≡ own) × LeafFits b l
+IsLeafFound b ks at n own = (l : LeafAt) × IsLeafNode n l × IsLeafHeld b ks l × (leaf_target l ≡ Header at)
+    × (leaf_blocks l ≡ own) × LeafFits b l
 
 -- A node that was found where a header is: of a group its header's blocks are known, of another object all.
 abbrev pub IsNodeFound : Array → Ks → ℕ → Node → List Block → Type 0
 IsNodeFound b ks at (node.Group header tree heap) own =
-    (prefix : Prefix) × (parts : List Part) × IsHeader b at prefix parts × IsGroupHeader (messages_of parts) tree heap × (header ≡ at) × (own ≡ header_blocks at prefix parts)
+    (prefix : Prefix) × (parts : List Part) × IsHeader b at prefix parts × IsGroupHeader (messages_of parts) tree heap
+    × (header ≡ at) × (own ≡ header_blocks at prefix parts)
     × (header_bytes at prefix parts ≤ most_header)
-IsNodeFound b ks at (node.Dataset header shape elem fill layout filtered) own = IsLeafFound b ks at (node.Dataset header shape elem fill layout filtered) own
+IsNodeFound b ks at (node.Dataset header shape elem fill layout filtered) own = IsLeafFound b ks at
+    (node.Dataset header shape elem fill layout filtered) own
 IsNodeFound b ks at (node.Soft text) own = ⊥
 IsNodeFound b ks at (node.Other header) own = IsLeafFound b ks at (node.Other header) own
 
@@ -58,7 +64,8 @@ pub record AreOpened (b : Array) (ks : Ks) (levels : ℕ) (links : KeyedLinks) (
 abbrev pub IsGroupRefused : Array → Bounds → Ks → (levels objects : ℕ) → List Block → (tree heap : ℕ) → Refusal → Type 0
 IsGroupRefused b e ks levels objects met tree heap r =
     IsTableRefused b e ks met tree heap r
-    ⊎ ((fs : List Found) × (index : List Block) × HasLinks b ks tree heap fs index × AreLinksRefused (IsObjectRefused b e ks levels) b ks objects (met ++ index) fs r)
+    ⊎ ((fs : List Found) × (index : List Block) × HasLinks b ks tree heap fs index
+    × AreLinksRefused (IsObjectRefused b e ks levels) b ks objects (met ++ index) fs r)
 
 -- What stands under a key has one link more, in its place; what it leads to is new, with all below it.
 pub record Adds (old new : ObjectTree) (key : ℕ) (name : Name) (t : Keyed) : Type 0 where

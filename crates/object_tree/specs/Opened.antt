@@ -25,7 +25,8 @@ IsGroupNode (node.Other header) g = ⊥
 -- the node of a dataset
 abbrev pub IsDataNode : Node → DataAt → Type 0
 IsDataNode (node.Dataset header shape elem fill layout filtered) d =
-    (header ≡ d.header_at) × (shape ≡ d.info.shape) × (elem ≡ d.info.elem) × (fill_bytes (size_of elem) fill ≡ d.info.fill) × (layout ≡ d.info.layout) × (filtered ≡ d.info.filtered)
+    (header ≡ d.header_at) × (shape ≡ d.info.shape) × (elem ≡ d.info.elem)
+    × (fill_bytes (size_of elem) fill ≡ d.info.fill) × (layout ≡ d.info.layout) × (filtered ≡ d.info.filtered)
 IsDataNode (node.Group header tree heap) d = ⊥
 IsDataNode (node.Soft text) d = ⊥
 IsDataNode (node.Other header) d = ⊥

@@ -1,4 +1,5 @@
-ghost use Rattle.std.specs.Prelude.{◌≡◌, ◌≤◌, ◌<◌, ◌++◌, ℕ, List, Option, IsTrue, IfOk, IfErr, IfSome, OnOk, OnErr, IsErrOf};
+ghost use Rattle.std.specs.Prelude.{◌≡◌, ◌≤◌, ◌<◌, ◌++◌, ℕ, List, Option, IsTrue, IfOk, IfErr, IfSome, OnOk, OnErr};
+ghost use Rattle.std.specs.Prelude.{IsErrOf};
 ghost use Rattle.outside.specs.Blocks.{Block};
 ghost use Rattle.outside.specs.Causes.{Rose};
 ghost use Rattle.outside.specs.Space.{bounds_of};
@@ -36,17 +37,24 @@ pub(crate) fn read_node<V: Space>(
 ) -> Result<Node, TreeStop>
     requires stands { V.Stands (space_of blocks.old) }
     requires listed { (met : List Block) × Keeps V.view blocks.old met }
-    ensures found { IsTrue V.tells → IfOk result (λ n. (met : List Block) → Keeps V.view blocks.old met → (own : List Block) × IsNodeFound (V.view (space_of blocks.old)).array (ks_of_values ks) at n own × Keeps V.view blocks.new (met ++ own)) }
+    ensures found { IsTrue V.tells → IfOk result (λ n. (met : List Block) → Keeps V.view blocks.old met
+        → (own : List Block) × IsNodeFound (V.view (space_of blocks.old)).array (ks_of_values ks) at n own
+        × Keeps V.view blocks.new (met ++ own)) }
     ensures few { OnOk result (objects < 65536) }
     ensures sound { IfOk result IsSoundNode }
-    ensures refused { IsTrue V.tells → IfErr result (λ stop. (levels : ℕ) (met : List Block) (own : Option (List ℕ)) → Keeps V.view blocks.old met
-        → IfSome (refusal_of stop) (IsRefusedWith (IsObjectRefused (V.view (space_of blocks.old)).array (bounds_of (V.view (space_of blocks.old)) own) (ks_of_values ks) levels)
-        (V.view (space_of blocks.old)).array (bounds_of (V.view (space_of blocks.old)) own) (ks_of_values ks) objects met at)) }
+    ensures refused { IsTrue V.tells → IfErr result (λ stop. (levels : ℕ) (met : List Block) (own : Option (List ℕ))
+        → Keeps V.view blocks.old met
+        → IfSome (refusal_of stop) (IsRefusedWith
+        (IsObjectRefused (V.view (space_of blocks.old)).array (bounds_of (V.view (space_of blocks.old)) own)
+        (ks_of_values ks) levels)
+        (V.view (space_of blocks.old)).array (bounds_of (V.view (space_of blocks.old)) own)
+        (ks_of_values ks) objects met at)) }
     ensures alike { V.Alike (space_of blocks.old) (space_of blocks.new) }
     ensures stands { (IsErrOf result TreeStop.Failed → ⊥) → V.Stands (space_of blocks.new) }
     ensures listed { OnOk result ((met : List Block) × Keeps V.view blocks.new met) }
     ensures later { V.faults (space_of blocks.old) ≤ V.faults (space_of blocks.new) }
-    ensures cause { IsErrOf result TreeStop.Failed → Rose (V.faults (space_of blocks.old)) (V.faults (space_of blocks.new)) }
+    ensures cause { IsErrOf result TreeStop.Failed
+        → Rose (V.faults (space_of blocks.old)) (V.faults (space_of blocks.new)) }
 {
     if objects >= MOST_OBJECTS {
         return Err(TreeStop::TooMany);
@@ -69,17 +77,25 @@ fn node_of<V: Space>(
     requires stands { V.Stands (space_of blocks.old) }
     requires listed { (met : List Block) × Keeps V.view blocks.old met }
     requires sound { IsSound kind }
-    ensures found { IsTrue V.tells → IfOk result (λ n. (met bs : List Block) → IsFound (V.view (space_of blocks.old)).array at (Header.Known kind) bs → Keeps V.view blocks.old (met ++ bs)
-        → (own : List Block) × IsNodeFound (V.view (space_of blocks.old)).array (ks_of_values ks) at n own × Keeps V.view blocks.new (met ++ own)) }
-    ensures refused { IsTrue V.tells → IfErr result (λ stop. (levels objects : ℕ) (met bs : List Block) (own : Option (List ℕ)) → IsFound (V.view (space_of blocks.old)).array at (Header.Known kind) bs → Keeps V.view blocks.old (met ++ bs)
-        → IfSome (refusal_of stop) (IsRefusedWith (IsObjectRefused (V.view (space_of blocks.old)).array (bounds_of (V.view (space_of blocks.old)) own) (ks_of_values ks) levels)
-        (V.view (space_of blocks.old)).array (bounds_of (V.view (space_of blocks.old)) own) (ks_of_values ks) objects met at)) }
+    ensures found { IsTrue V.tells → IfOk result (λ n. (met bs : List Block)
+        → IsFound (V.view (space_of blocks.old)).array at (Header.Known kind) bs → Keeps V.view blocks.old (met ++ bs)
+        → (own : List Block) × IsNodeFound (V.view (space_of blocks.old)).array (ks_of_values ks) at n own
+        × Keeps V.view blocks.new (met ++ own)) }
+    ensures refused { IsTrue V.tells → IfErr result
+        (λ stop. (levels objects : ℕ) (met bs : List Block) (own : Option (List ℕ))
+        → IsFound (V.view (space_of blocks.old)).array at (Header.Known kind) bs → Keeps V.view blocks.old (met ++ bs)
+        → IfSome (refusal_of stop) (IsRefusedWith
+        (IsObjectRefused (V.view (space_of blocks.old)).array (bounds_of (V.view (space_of blocks.old)) own)
+        (ks_of_values ks) levels)
+        (V.view (space_of blocks.old)).array (bounds_of (V.view (space_of blocks.old)) own)
+        (ks_of_values ks) objects met at)) }
     ensures sound { IfOk result IsSoundNode }
     ensures alike { V.Alike (space_of blocks.old) (space_of blocks.new) }
     ensures stands { (IsErrOf result TreeStop.Failed → ⊥) → V.Stands (space_of blocks.new) }
     ensures listed { OnOk result ((met : List Block) × Keeps V.view blocks.new met) }
     ensures later { V.faults (space_of blocks.old) ≤ V.faults (space_of blocks.new) }
-    ensures cause { IsErrOf result TreeStop.Failed → Rose (V.faults (space_of blocks.old)) (V.faults (space_of blocks.new)) }
+    ensures cause { IsErrOf result TreeStop.Failed
+        → Rose (V.faults (space_of blocks.old)) (V.faults (space_of blocks.new)) }
 {
     match kind {
         ObjectKind::Group { tree_at, heap_at } => Ok(Node::Group {

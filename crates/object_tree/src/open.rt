@@ -1,4 +1,5 @@
-ghost use Rattle.std.specs.Prelude.{◌≡◌, ◌≤◌, ◌<◌, ◌++◌, ◌∷◌, [], ℕ, List, Option, None, true, IsTrue, IfOk, IfErr, IfSome, OnOk, OnErr, IsErrOf};
+ghost use Rattle.std.specs.Prelude.{◌≡◌, ◌≤◌, ◌<◌, ◌++◌, ◌∷◌, [], ℕ, List, Option, None, true, IsTrue, IfOk, IfErr};
+ghost use Rattle.std.specs.Prelude.{IfSome, OnOk, OnErr, IsErrOf};
 ghost use Rattle.outside.specs.Blocks.{Block};
 ghost use Rattle.outside.specs.Causes.{Rose};
 ghost use Rattle.outside.specs.Space.{bounds_of};
@@ -45,13 +46,18 @@ fn read_superblock<V: Space>(alloc: Global, blocks: &mut Blocks<V>) -> Result<Su
     requires empty { Keeps V.view blocks.old [] }
     requires first { ((V.view (space_of blocks.old)).regions class.Super).start ≡ 0 }
     ensures fits { IfOk result Fits }
-    ensures found { IsTrue V.tells → IfOk result (λ s. Spells s (super_bytes_of (V.view (space_of blocks.old)).array (bounds_of (V.view (space_of blocks.old)) None))) }
+    ensures found { IsTrue V.tells → IfOk result
+        (λ s. Spells s (super_bytes_of (V.view (space_of blocks.old)).array
+        (bounds_of (V.view (space_of blocks.old)) None))) }
     ensures taken { IfOk result (λ s. Keeps V.view blocks.new (super_block s ∷ [])) }
-    ensures refused { IsTrue V.tells → IfErr result (λ stop. IfSome (refusal_of stop) (IsFileRefused (V.view (space_of blocks.old)).array (bounds_of (V.view (space_of blocks.old)) None))) }
+    ensures refused { IsTrue V.tells → IfErr result
+        (λ stop. IfSome (refusal_of stop) (IsFileRefused (V.view (space_of blocks.old)).array
+        (bounds_of (V.view (space_of blocks.old)) None))) }
     ensures alike { V.Alike (space_of blocks.old) (space_of blocks.new) }
     ensures stands { (IsErrOf result TreeStop.Failed → ⊥) → V.Stands (space_of blocks.new) }
     ensures later { V.faults (space_of blocks.old) ≤ V.faults (space_of blocks.new) }
-    ensures cause { IsErrOf result TreeStop.Failed → Rose (V.faults (space_of blocks.old)) (V.faults (space_of blocks.new)) }
+    ensures cause { IsErrOf result TreeStop.Failed
+        → Rose (V.faults (space_of blocks.old)) (V.faults (space_of blocks.new)) }
 {
     let len = 100u64.min(blocks.space().end(MemClass::Super)) as usize;
     let bytes = match read(alloc, blocks, 0, len) {
@@ -99,16 +105,21 @@ fn open_root<V: Space>(
     requires stands { V.Stands (space_of blocks.old) }
     requires taken { Keeps V.view blocks.old (super_block superblock ∷ []) }
     requires fits { Fits superblock }
-    ensures opened { IsTrue V.tells → Spells superblock (super_bytes_of (V.view (space_of blocks.old)).array (bounds_of (V.view (space_of blocks.old)) None))
-        → IfOk result (λ kept. IsOpened (V.view (space_of blocks.old)).array (bounds_of (V.view (space_of blocks.old)) None) kept) }
-    ensures refused { IsTrue V.tells → Spells superblock (super_bytes_of (V.view (space_of blocks.old)).array (bounds_of (V.view (space_of blocks.old)) None))
-        → IfErr result (λ stop. IfSome (refusal_of stop) (IsFileRefused (V.view (space_of blocks.old)).array (bounds_of (V.view (space_of blocks.old)) None))) }
+    ensures opened { IsTrue V.tells → Spells superblock
+        (super_bytes_of (V.view (space_of blocks.old)).array (bounds_of (V.view (space_of blocks.old)) None))
+        → IfOk result (λ kept. IsOpened (V.view (space_of blocks.old)).array
+        (bounds_of (V.view (space_of blocks.old)) None) kept) }
+    ensures refused { IsTrue V.tells → Spells superblock
+        (super_bytes_of (V.view (space_of blocks.old)).array (bounds_of (V.view (space_of blocks.old)) None))
+        → IfErr result (λ stop. IfSome (refusal_of stop)
+        (IsFileRefused (V.view (space_of blocks.old)).array (bounds_of (V.view (space_of blocks.old)) None))) }
     ensures sound { IfOk result IsSoundTree }
     ensures alike { V.Alike (space_of blocks.old) (space_of blocks.new) }
     ensures stands { (IsErrOf result TreeStop.Failed → ⊥) → V.Stands (space_of blocks.new) }
     ensures listed { OnOk result ((met : List Block) × Keeps V.view blocks.new met) }
     ensures later { V.faults (space_of blocks.old) ≤ V.faults (space_of blocks.new) }
-    ensures cause { IsErrOf result TreeStop.Failed → Rose (V.faults (space_of blocks.old)) (V.faults (space_of blocks.new)) }
+    ensures cause { IsErrOf result TreeStop.Failed
+        → Rose (V.faults (space_of blocks.old)) (V.faults (space_of blocks.new)) }
 {
     let ks = k_values(&superblock);
     let at = superblock.root.header_at;
@@ -155,16 +166,22 @@ fn open_below<V: Space>(
     ensures superblock { IfOk result (λ kept. superblock_of kept ≡ superblock) }
     ensures few { IfOk result (λ kept. object_count kept ≤ 65536) }
     ensures opened { IfOk result (λ kept. (kls : KeyedLinks) × HasRoot kept root kls
-        × (IsTrue V.tells → (met : List Block) → Keeps V.view blocks.old met → (index : List Block) × (ls : FullLinks) × HasLinks (V.view (space_of blocks.old)).array (ks_of_values ks) tree_at heap_at (founds ls) index
-        × IsSmallHeap (V.view (space_of blocks.old)).array heap_at × AreOpened (V.view (space_of blocks.old)).array (ks_of_values ks) 32 kls ls × Keeps V.view blocks.new (met ++ (index ++ blocks_in ls)))) }
-    ensures refused { IsTrue V.tells → IfErr result (λ stop. (met : List Block) (own : Option (List ℕ)) → Keeps V.view blocks.old met
-        → IfSome (refusal_of stop) (IsGroupRefused (V.view (space_of blocks.old)).array (bounds_of (V.view (space_of blocks.old)) own) (ks_of_values ks) 32 1 met tree_at heap_at)) }
+        × (IsTrue V.tells → (met : List Block) → Keeps V.view blocks.old met → (index : List Block) × (ls : FullLinks)
+        × HasLinks (V.view (space_of blocks.old)).array (ks_of_values ks) tree_at heap_at (founds ls) index
+        × IsSmallHeap (V.view (space_of blocks.old)).array heap_at
+        × AreOpened (V.view (space_of blocks.old)).array (ks_of_values ks) 32 kls ls
+        × Keeps V.view blocks.new (met ++ (index ++ blocks_in ls)))) }
+    ensures refused { IsTrue V.tells → IfErr result (λ stop. (met : List Block) (own : Option (List ℕ))
+        → Keeps V.view blocks.old met
+        → IfSome (refusal_of stop) (IsGroupRefused (V.view (space_of blocks.old)).array
+        (bounds_of (V.view (space_of blocks.old)) own) (ks_of_values ks) 32 1 met tree_at heap_at)) }
     ensures sound { IfOk result IsSoundTree }
     ensures alike { V.Alike (space_of blocks.old) (space_of blocks.new) }
     ensures stands { (IsErrOf result TreeStop.Failed → ⊥) → V.Stands (space_of blocks.new) }
     ensures listed { OnOk result ((met : List Block) × Keeps V.view blocks.new met) }
     ensures later { V.faults (space_of blocks.old) ≤ V.faults (space_of blocks.new) }
-    ensures cause { IsErrOf result TreeStop.Failed → Rose (V.faults (space_of blocks.old)) (V.faults (space_of blocks.new)) }
+    ensures cause { IsErrOf result TreeStop.Failed
+        → Rose (V.faults (space_of blocks.old)) (V.faults (space_of blocks.new)) }
 {
     let mut tree = match ObjectTree::empty(alloc, superblock, root) {
         Ok(tree) => tree,
@@ -179,25 +196,32 @@ fn open_below<V: Space>(
     }
 }
 
-/// Reads the whole tree of a file, each block once: of a space whose first region begins at address 0, and of whose blocks
-/// none is in the catalogue yet. The errors name what the bytes show; `Failed` comes only from a fault of the space.
+/// Reads the whole tree of a file, each block once: of a space whose first region begins at address 0, and of whose
+/// blocks none is in the catalogue yet. The errors name what the bytes show; `Failed` comes only from a fault of the
+/// space.
 pub fn open_tree<V: Space>(alloc: Global, blocks: &mut Blocks<V>) -> Result<ObjectTree, TreeStop>
     requires stands { V.Stands (space_of blocks.old) }
     requires empty { Keeps V.view blocks.old [] }
     requires first { ((V.view (space_of blocks.old)).regions class.Super).start ≡ 0 }
     // The tree is the one that the bytes hold within the limits.
-    ensures opened { IsTrue V.tells → IfOk result (λ kept. IsOpened (V.view (space_of blocks.old)).array (bounds_of (V.view (space_of blocks.old)) None) kept) }
+    ensures opened { IsTrue V.tells → IfOk result
+        (λ kept. IsOpened (V.view (space_of blocks.old)).array (bounds_of (V.view (space_of blocks.old)) None) kept) }
     // What is refused is shown by the bytes.
-    ensures refused { IsTrue V.tells → IfErr result (λ stop. IfSome (refusal_of stop) (IsFileRefused (V.view (space_of blocks.old)).array (bounds_of (V.view (space_of blocks.old)) None))) }
+    ensures refused { IsTrue V.tells → IfErr result
+        (λ stop. IfSome (refusal_of stop) (IsFileRefused (V.view (space_of blocks.old)).array
+        (bounds_of (V.view (space_of blocks.old)) None))) }
     // A tree that is held within the limits is refused by no line.
-    ensures complete { IsTrue V.tells → (s : Superblock) (g : GroupAt) (ls : FullLinks) (h : HoldsFull (V.view (space_of blocks.old)).array (bounds_of (V.view (space_of blocks.old)) None) s g ls)
-        → IsWithinLimits (V.view (space_of blocks.old)).array (all_blocks s h.driver (Group g ls)) (Group g ls) → IfErr result (λ stop. refusal_of stop ≡ None) }
+    ensures complete { IsTrue V.tells → (s : Superblock) (g : GroupAt) (ls : FullLinks)
+        (h : HoldsFull (V.view (space_of blocks.old)).array (bounds_of (V.view (space_of blocks.old)) None) s g ls)
+        → IsWithinLimits (V.view (space_of blocks.old)).array (all_blocks s h.driver (Group g ls)) (Group g ls)
+        → IfErr result (λ stop. refusal_of stop ≡ None) }
     ensures sound { IfOk result IsSoundTree }
     ensures alike { V.Alike (space_of blocks.old) (space_of blocks.new) }
     ensures stands { (IsErrOf result TreeStop.Failed → ⊥) → V.Stands (space_of blocks.new) }
     ensures listed { OnOk result ((met : List Block) × Keeps V.view blocks.new met) }
     ensures later { V.faults (space_of blocks.old) ≤ V.faults (space_of blocks.new) }
-    ensures cause { IsErrOf result TreeStop.Failed → Rose (V.faults (space_of blocks.old)) (V.faults (space_of blocks.new)) }
+    ensures cause { IsErrOf result TreeStop.Failed
+        → Rose (V.faults (space_of blocks.old)) (V.faults (space_of blocks.new)) }
 {
     match read_superblock(alloc, blocks) {
         Ok(superblock) => open_root(alloc, blocks, superblock),

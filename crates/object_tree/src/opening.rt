@@ -1,4 +1,5 @@
-ghost use Rattle.std.specs.Prelude.{◌≡◌, ◌≤◌, ◌<◌, ◌+◌, ◌++◌, ℕ, List, Option, map, IsTrue, IfOk, IfErr, IfSome, OnOk, OnErr, IsErrOf};
+ghost use Rattle.std.specs.Prelude.{◌≡◌, ◌≤◌, ◌<◌, ◌+◌, ◌++◌, ℕ, List, Option, map, IsTrue, IfOk, IfErr, IfSome, OnOk};
+ghost use Rattle.std.specs.Prelude.{OnErr, IsErrOf};
 ghost use Rattle.outside.specs.Blocks.{Block};
 ghost use Rattle.outside.specs.Causes.{Rose};
 ghost use Rattle.outside.specs.Space.{bounds_of};
@@ -47,16 +48,21 @@ fn open_object<V: Space>(
     requires few { object_count tree.old ≤ 65536 }
     requires sound { IsSoundTree tree.old }
     ensures opened { OnOk result ((t : Keyed) × Adds tree.old tree.new group.key name t
-        × (IsTrue V.tells → (met : List Block) → Keeps V.view blocks.old met → (u : Full) × IsOpenedAt (V.view (space_of blocks.old)).array (ks_of_values ks) levels (Header at) t u × Keeps V.view blocks.new (met ++ blocks_of u))) }
+        × (IsTrue V.tells → (met : List Block) → Keeps V.view blocks.old met → (u : Full)
+        × IsOpenedAt (V.view (space_of blocks.old)).array (ks_of_values ks) levels (Header at) t u
+        × Keeps V.view blocks.new (met ++ blocks_of u))) }
     ensures few { OnOk result (object_count tree.new ≤ 65536) }
     ensures sound { OnOk result (IsSoundTree tree.new) }
-    ensures refused { IsTrue V.tells → IfErr result (λ stop. (met : List Block) (own : Option (List ℕ)) → Keeps V.view blocks.old met
-        → IfSome (refusal_of stop) (IsObjectRefused (V.view (space_of blocks.old)).array (bounds_of (V.view (space_of blocks.old)) own) (ks_of_values ks) levels (object_count tree.old) met at)) }
+    ensures refused { IsTrue V.tells → IfErr result (λ stop. (met : List Block) (own : Option (List ℕ))
+        → Keeps V.view blocks.old met
+        → IfSome (refusal_of stop) (IsObjectRefused (V.view (space_of blocks.old)).array
+        (bounds_of (V.view (space_of blocks.old)) own) (ks_of_values ks) levels (object_count tree.old) met at)) }
     ensures alike { V.Alike (space_of blocks.old) (space_of blocks.new) }
     ensures stands { (IsErrOf result TreeStop.Failed → ⊥) → V.Stands (space_of blocks.new) }
     ensures listed { OnOk result ((met : List Block) × Keeps V.view blocks.new met) }
     ensures later { V.faults (space_of blocks.old) ≤ V.faults (space_of blocks.new) }
-    ensures cause { IsErrOf result TreeStop.Failed → Rose (V.faults (space_of blocks.old)) (V.faults (space_of blocks.new)) }
+    ensures cause { IsErrOf result TreeStop.Failed
+        → Rose (V.faults (space_of blocks.old)) (V.faults (space_of blocks.new)) }
 {
     if levels == 0 {
         return Err(TreeStop::TooDeep);
@@ -96,16 +102,22 @@ fn open_link<V: Space>(
     requires few { object_count tree.old ≤ 65536 }
     requires sound { IsSoundTree tree.old }
     ensures opened { OnOk result ((t : Keyed) × Adds tree.old tree.new group.key link.name t
-        × (IsTrue V.tells → (met : List Block) → Keeps V.view blocks.old met → (u : Full) × IsOpenedAt (V.view (space_of blocks.old)).array (ks_of_values ks) levels (target_of link.target) t u × Keeps V.view blocks.new (met ++ blocks_of u))) }
+        × (IsTrue V.tells → (met : List Block) → Keeps V.view blocks.old met → (u : Full)
+        × IsOpenedAt (V.view (space_of blocks.old)).array (ks_of_values ks) levels (target_of link.target) t u
+        × Keeps V.view blocks.new (met ++ blocks_of u))) }
     ensures few { OnOk result (object_count tree.new ≤ 65536) }
     ensures sound { OnOk result (IsSoundTree tree.new) }
-    ensures refused { IsTrue V.tells → IfErr result (λ stop. (met : List Block) (own : Option (List ℕ)) → Keeps V.view blocks.old met
-        → IfSome (refusal_of stop) (IsTargetRefused (IsObjectRefused (V.view (space_of blocks.old)).array (bounds_of (V.view (space_of blocks.old)) own) (ks_of_values ks) levels) (object_count tree.old) met (target_of link.target))) }
+    ensures refused { IsTrue V.tells → IfErr result (λ stop. (met : List Block) (own : Option (List ℕ))
+        → Keeps V.view blocks.old met
+        → IfSome (refusal_of stop) (IsTargetRefused
+        (IsObjectRefused (V.view (space_of blocks.old)).array (bounds_of (V.view (space_of blocks.old)) own)
+        (ks_of_values ks) levels) (object_count tree.old) met (target_of link.target))) }
     ensures alike { V.Alike (space_of blocks.old) (space_of blocks.new) }
     ensures stands { (IsErrOf result TreeStop.Failed → ⊥) → V.Stands (space_of blocks.new) }
     ensures listed { OnOk result ((met : List Block) × Keeps V.view blocks.new met) }
     ensures later { V.faults (space_of blocks.old) ≤ V.faults (space_of blocks.new) }
-    ensures cause { IsErrOf result TreeStop.Failed → Rose (V.faults (space_of blocks.old)) (V.faults (space_of blocks.new)) }
+    ensures cause { IsErrOf result TreeStop.Failed
+        → Rose (V.faults (space_of blocks.old)) (V.faults (space_of blocks.new)) }
 {
     let FoundLink { name, target } = link;
     match target {
@@ -137,16 +149,23 @@ fn open_each<V: Space>(
     requires sound { IsSoundTree tree.old }
     requires ordered { AreOrdered (map (λ l. l.name) links.items) }
     ensures opened { OnOk result ((kls : KeyedLinks) × Grows tree.old tree.new group.key kls
-        × (IsTrue V.tells → (met : List Block) → Keeps V.view blocks.old met → (ls : FullLinks) × AreOpened (V.view (space_of blocks.old)).array (ks_of_values ks) levels kls ls × (founds ls ≡ map found_of links.items) × Keeps V.view blocks.new (met ++ blocks_in ls))) }
+        × (IsTrue V.tells → (met : List Block) → Keeps V.view blocks.old met → (ls : FullLinks)
+        × AreOpened (V.view (space_of blocks.old)).array (ks_of_values ks) levels kls ls
+        × (founds ls ≡ map found_of links.items) × Keeps V.view blocks.new (met ++ blocks_in ls))) }
     ensures few { OnOk result (object_count tree.new ≤ 65536) }
     ensures sound { OnOk result (IsSoundTree tree.new) }
-    ensures refused { IsTrue V.tells → IfErr result (λ stop. (met : List Block) (own : Option (List ℕ)) → Keeps V.view blocks.old met
-        → IfSome (refusal_of stop) (AreLinksRefused (IsObjectRefused (V.view (space_of blocks.old)).array (bounds_of (V.view (space_of blocks.old)) own) (ks_of_values ks) levels) (V.view (space_of blocks.old)).array (ks_of_values ks) (object_count tree.old) met (map found_of links.items))) }
+    ensures refused { IsTrue V.tells → IfErr result (λ stop. (met : List Block) (own : Option (List ℕ))
+        → Keeps V.view blocks.old met
+        → IfSome (refusal_of stop) (AreLinksRefused
+        (IsObjectRefused (V.view (space_of blocks.old)).array (bounds_of (V.view (space_of blocks.old)) own)
+        (ks_of_values ks) levels) (V.view (space_of blocks.old)).array (ks_of_values ks) (object_count tree.old) met
+        (map found_of links.items))) }
     ensures alike { V.Alike (space_of blocks.old) (space_of blocks.new) }
     ensures stands { (IsErrOf result TreeStop.Failed → ⊥) → V.Stands (space_of blocks.new) }
     ensures listed { OnOk result ((met : List Block) × Keeps V.view blocks.new met) }
     ensures later { V.faults (space_of blocks.old) ≤ V.faults (space_of blocks.new) }
-    ensures cause { IsErrOf result TreeStop.Failed → Rose (V.faults (space_of blocks.old)) (V.faults (space_of blocks.new)) }
+    ensures cause { IsErrOf result TreeStop.Failed
+        → Rose (V.faults (space_of blocks.old)) (V.faults (space_of blocks.new)) }
 {
     for link in links {
         match open_link(alloc, blocks, tree, ks, group, link, levels) {
@@ -175,17 +194,24 @@ pub(crate) fn open_links<V: Space>(
     requires few { object_count tree.old ≤ 65536 }
     requires sound { IsSoundTree tree.old }
     ensures opened { OnOk result ((kls : KeyedLinks) × Grows tree.old tree.new group.key kls
-        × (IsTrue V.tells → (met : List Block) → Keeps V.view blocks.old met → (index : List Block) × (ls : FullLinks) × HasLinks (V.view (space_of blocks.old)).array (ks_of_values ks) tree_at heap_at (founds ls) index
-        × IsSmallHeap (V.view (space_of blocks.old)).array heap_at × AreOpened (V.view (space_of blocks.old)).array (ks_of_values ks) levels kls ls × Keeps V.view blocks.new (met ++ (index ++ blocks_in ls)))) }
+        × (IsTrue V.tells → (met : List Block) → Keeps V.view blocks.old met → (index : List Block) × (ls : FullLinks)
+        × HasLinks (V.view (space_of blocks.old)).array (ks_of_values ks) tree_at heap_at (founds ls) index
+        × IsSmallHeap (V.view (space_of blocks.old)).array heap_at
+        × AreOpened (V.view (space_of blocks.old)).array (ks_of_values ks) levels kls ls
+        × Keeps V.view blocks.new (met ++ (index ++ blocks_in ls)))) }
     ensures few { OnOk result (object_count tree.new ≤ 65536) }
     ensures sound { OnOk result (IsSoundTree tree.new) }
-    ensures refused { IsTrue V.tells → IfErr result (λ stop. (met : List Block) (own : Option (List ℕ)) → Keeps V.view blocks.old met
-        → IfSome (refusal_of stop) (IsGroupRefused (V.view (space_of blocks.old)).array (bounds_of (V.view (space_of blocks.old)) own) (ks_of_values ks) levels (object_count tree.old) met tree_at heap_at)) }
+    ensures refused { IsTrue V.tells → IfErr result (λ stop. (met : List Block) (own : Option (List ℕ))
+        → Keeps V.view blocks.old met
+        → IfSome (refusal_of stop) (IsGroupRefused (V.view (space_of blocks.old)).array
+        (bounds_of (V.view (space_of blocks.old)) own) (ks_of_values ks) levels
+        (object_count tree.old) met tree_at heap_at)) }
     ensures alike { V.Alike (space_of blocks.old) (space_of blocks.new) }
     ensures stands { (IsErrOf result TreeStop.Failed → ⊥) → V.Stands (space_of blocks.new) }
     ensures listed { OnOk result ((met : List Block) × Keeps V.view blocks.new met) }
     ensures later { V.faults (space_of blocks.old) ≤ V.faults (space_of blocks.new) }
-    ensures cause { IsErrOf result TreeStop.Failed → Rose (V.faults (space_of blocks.old)) (V.faults (space_of blocks.new)) }
+    ensures cause { IsErrOf result TreeStop.Failed
+        → Rose (V.faults (space_of blocks.old)) (V.faults (space_of blocks.new)) }
 {
     match read_links(alloc, blocks, ks.leaf, ks.internal, tree_at, heap_at) {
         Ok(links) => open_each(alloc, blocks, tree, ks, group, links, levels),

@@ -1,6 +1,7 @@
 -- One file of a store by address: what a space over it tells, when it stands and when it rests.
 -- Cited by `PlainSpace`, and by its callers.
-use Rattle.std.specs.Prelude.{◌≡◌, ◌≢◌, ℕ, ◌^◌, ◌<◌, Bool, true, false, IsTrue, List, length, take, drop, Option, Some, None}
+use Rattle.std.specs.Prelude.{◌≡◌, ◌≢◌, ℕ, ◌^◌, ◌<◌, Bool, true, false, IsTrue, List, length, take, drop, Option, Some}
+use Rattle.std.specs.Prelude.{None}
 use Rattle.h5_base.specs.declared.extent.Extent.{Extent}
 use Rattle.h5_base.specs.declared.extent.Region.{Region}
 use Rattle.outside.specs.Array.{Array, array_of}
@@ -43,11 +44,13 @@ pub record IsOpen (tells : Bool) (v : View) (id end : ℕ) : Type 0 where
 
 -- Over an honest store that tells its files and images, a stop leaves the file just as it reads.
 abbrev pub RestsIn : Bool → Bool → View → (Files → Type 0) → ℕ → Type 0
-RestsIn tells tells_images v leaves id = IsTrue tells → IsTrue tells_images → IsTrue v.honest → RestsAt (v.names id) (file_in v id) leaves
+RestsIn tells tells_images v leaves id = IsTrue tells → IsTrue tells_images → IsTrue v.honest
+    → RestsAt (v.names id) (file_in v id) leaves
 
--- What a run of calls that only look at one file leaves of its store: names, files and the faults of other files stay, and
--- each image and each snapshot since is one that a stop could leave before.
-pub record Looks (tells tells_images : Bool) (id : ℕ) (v w : View) (leaves new_leaves : Files → Type 0) (past new_past : Snapshot → Type 0) : Type 0 where
+-- What a run of calls that only look at one file leaves of its store: names, files and the faults of other files stay,
+-- and each image and each snapshot since is one that a stop could leave before.
+pub record Looks (tells tells_images : Bool) (id : ℕ) (v w : View) (leaves new_leaves : Files
+    → Type 0) (past new_past : Snapshot → Type 0) : Type 0 where
   pub names : w.names ≡ v.names
   pub ids : w.ids ≡ v.ids
   pub goes : Goes tells (λ _. ⊥) v w
@@ -55,9 +58,11 @@ pub record Looks (tells tells_images : Bool) (id : ℕ) (v w : View) (leaves new
   pub fewer : IsTrue tells_images → (c : Files) → new_leaves c → leaves c
   pub since : IsTrue tells_images → GoesOver (λ _. ⊥) leaves new_leaves past new_past
 
--- What a run of calls on one file leaves of its store: names, the other files and their faults stay, the bytes of the file that
--- aren't seen stay, and each image and each snapshot since agrees with one that a stop could leave before in every other file.
-pub record Touches (tells tells_images : Bool) (id : ℕ) (v w : View) (leaves new_leaves : Files → Type 0) (past new_past : Snapshot → Type 0) : Type 0 where
+-- What a run of calls on one file leaves of its store: names, the other files and their faults stay, the bytes of the
+-- file that aren't seen stay, and each image and each snapshot since agrees with one that a stop could leave before in
+-- every other file.
+pub record Touches (tells tells_images : Bool) (id : ℕ) (v w : View) (leaves new_leaves : Files
+    → Type 0) (past new_past : Snapshot → Type 0) : Type 0 where
   pub names : w.names ≡ v.names
   pub ids : w.ids ≡ v.ids
   pub goes : Goes tells (λ q. q ≡ v.names id) v w

@@ -14,7 +14,8 @@ fn read_below<S: Store>(store: &mut S, id: FileId, at: u64, out: &mut [u8]) -> R
     ensures count { IfOk result (λ n. n ≤ length out.old) }
     ensures bytes { IsTrue S.tells_files → IfOk result (λ n.
         take n out.new ≡ take (length out.old) (drop at (seen (file_in (S.view store.old) id.n)))) }
-    ensures looks { Looks S.tells_files S.tells_images id.n (S.view store.old) (S.view store.new) (S.leaves store.old) (S.leaves store.new) (S.past store.old) (S.past store.new) }
+    ensures looks { Looks S.tells_files S.tells_images id.n (S.view store.old) (S.view store.new) (S.leaves store.old)
+        (S.leaves store.new) (S.past store.old) (S.past store.new) }
     ensures cause { HasCause ((S.view store.old).counts (Some id.n)) ((S.view store.new).counts (Some id.n)) result }
 {
     if at >= LIMIT {
@@ -27,8 +28,10 @@ fn read_below<S: Store>(store: &mut S, id: FileId, at: u64, out: &mut [u8]) -> R
 /// Reads the bytes of a file that are seen from `at` on, with zeros behind them, in at most one call.
 pub fn read_part<S: Store>(store: &mut S, id: FileId, at: u64, out: &mut [u8]) -> Result<(), Failed>
     requires given { 0 < length ((S.view store.old).names id.n) }
-    ensures bytes { IsTrue S.tells_files → OnOk result (out.new ≡ bytes_of (array_of (seen (file_in (S.view store.old) id.n))) at (length out.old)) }
-    ensures looks { Looks S.tells_files S.tells_images id.n (S.view store.old) (S.view store.new) (S.leaves store.old) (S.leaves store.new) (S.past store.old) (S.past store.new) }
+    ensures bytes { IsTrue S.tells_files → OnOk result
+        (out.new ≡ bytes_of (array_of (seen (file_in (S.view store.old) id.n))) at (length out.old)) }
+    ensures looks { Looks S.tells_files S.tells_images id.n (S.view store.old) (S.view store.new) (S.leaves store.old)
+        (S.leaves store.new) (S.past store.old) (S.past store.new) }
     ensures cause { HasCause ((S.view store.old).counts (Some id.n)) ((S.view store.new).counts (Some id.n)) result }
 {
     let count = read_below(store, id, at, out)?;

@@ -35,12 +35,16 @@ impl<S: Store> PlainSpace<S> {
     pub fn open(alloc: Global, mut store: S, id: FileId) -> Result<PlainSpace<S>, OpenRefused<S>>
         requires { 0 < length ((S.view store).names id.n) }
         ensures id { IfOk result (λ space. id_of space ≡ id.n) }
-        ensures end { IsTrue S.tells_files → IfOk result (λ space. end_of space ≡ length (seen (file_in (S.view store) id.n))) }
+        ensures end { IsTrue S.tells_files → IfOk result
+            (λ space. end_of space ≡ length (seen (file_in (S.view store) id.n))) }
         ensures prepared { IfOk result (λ space. prepared_of space ≡ []) }
         ensures stands { IfOk result (λ space. ⟦<PlainSpace<S> as Space>⟧.Stands space) }
-        ensures view { IfOk result (λ space. ⟦<PlainSpace<S> as Space>⟧.view space ≡ view_of S.tells_files (S.view (store_of space)) (id_of space) (end_of space) []) }
-        ensures failed { OnErr result (Rose ((S.view store).counts (Some id.n)) ((S.view (store_left result)).counts (Some id.n))) }
-        ensures looks { Looks S.tells_files S.tells_images id.n (S.view store) (S.view (store_left result)) (S.leaves store) (S.leaves (store_left result)) (S.past store) (S.past (store_left result)) }
+        ensures view { IfOk result (λ space. ⟦<PlainSpace<S> as Space>⟧.view space ≡ view_of S.tells_files
+            (S.view (store_of space)) (id_of space) (end_of space) []) }
+        ensures failed { OnErr result (Rose ((S.view store).counts (Some id.n))
+            ((S.view (store_left result)).counts (Some id.n))) }
+        ensures looks { Looks S.tells_files S.tells_images id.n (S.view store) (S.view (store_left result))
+            (S.leaves store) (S.leaves (store_left result)) (S.past store) (S.past (store_left result)) }
     {
         match store.len(id) {
             Ok(len) => Ok(PlainSpace {
@@ -56,23 +60,30 @@ impl<S: Store> PlainSpace<S> {
     /// Gives the store back. It makes no call and takes no memory.
     pub fn into_store(self) -> S
         ensures store { result ≡ store_of self }
-        ensures view { ⟦<PlainSpace<S> as Space>⟧.view self ≡ view_of S.tells_files (S.view result) (id_of self) (end_of self) (prepared_of self) }
-        ensures array { IsTrue S.tells_files → (⟦<PlainSpace<S> as Space>⟧.view self).array ≡ array_of (seen (file_in (S.view result) (id_of self))) }
+        ensures view { ⟦<PlainSpace<S> as Space>⟧.view self ≡ view_of S.tells_files (S.view result) (id_of self)
+            (end_of self) (prepared_of self) }
+        ensures array { IsTrue S.tells_files → (⟦<PlainSpace<S> as Space>⟧.view self).array ≡ array_of
+            (seen (file_in (S.view result) (id_of self))) }
         ensures faults { ⟦<PlainSpace<S> as Space>⟧.faults self ≡ (S.view result).counts (Some (id_of self)) }
         ensures moment { ⟦<PlainSpace<S> as Space>⟧.moment self ≡ (S.view result).moment }
-        ensures rests { ⟦<PlainSpace<S> as Space>⟧.Rests self → RestsIn S.tells_files S.tells_images (S.view result) (S.leaves result) (id_of self) }
+        ensures rests { ⟦<PlainSpace<S> as Space>⟧.Rests self
+            → RestsIn S.tells_files S.tells_images (S.view result) (S.leaves result) (id_of self) }
         // What the calls on the space, since it was another, left of its store.
         ensures looked { (a : PlainSpace S) → ⟦<PlainSpace<S> as Kept>⟧.Alike a self
-            → Looks S.tells_files S.tells_images (id_of a) (S.view (store_of a)) (S.view result) (S.leaves (store_of a)) (S.leaves result) (S.past (store_of a)) (S.past result) }
+            → Looks S.tells_files S.tells_images (id_of a) (S.view (store_of a)) (S.view result)
+            (S.leaves (store_of a)) (S.leaves result) (S.past (store_of a)) (S.past result) }
         ensures touched { (a : PlainSpace S) → ⟦<PlainSpace<S> as Space>⟧.GoesOn a self
-            → Touches S.tells_files S.tells_images (id_of a) (S.view (store_of a)) (S.view result) (S.leaves (store_of a)) (S.leaves result) (S.past (store_of a)) (S.past result) }
+            → Touches S.tells_files S.tells_images (id_of a) (S.view (store_of a)) (S.view result)
+            (S.leaves (store_of a)) (S.leaves result) (S.past (store_of a)) (S.past result) }
         ensures same_id { (a : PlainSpace S) → ⟦<PlainSpace<S> as Space>⟧.GoesOn a self → id_of self ≡ id_of a }
         // With the same bytes and ends, it is the same file, with the bytes that aren't seen.
         ensures same_file { (a : PlainSpace S) → IsTrue S.tells_files → ⟦<PlainSpace<S> as Space>⟧.GoesOn a self
-            → (⟦<PlainSpace<S> as Space>⟧.view self).array ≡ (⟦<PlainSpace<S> as Space>⟧.view a).array → (⟦<PlainSpace<S> as Space>⟧.view self).ends ≡ (⟦<PlainSpace<S> as Space>⟧.view a).ends
+            → (⟦<PlainSpace<S> as Space>⟧.view self).array ≡ (⟦<PlainSpace<S> as Space>⟧.view a).array
+            → (⟦<PlainSpace<S> as Space>⟧.view self).ends ≡ (⟦<PlainSpace<S> as Space>⟧.view a).ends
             → file_in (S.view result) (id_of a) ≡ file_in (S.view (store_of a)) (id_of a) }
         // A fault of the space is one of the store.
-        ensures rose { (a : PlainSpace S) → ⟦<PlainSpace<S> as Space>⟧.GoesOn a self → Rose (⟦<PlainSpace<S> as Space>⟧.faults a) (⟦<PlainSpace<S> as Space>⟧.faults self)
+        ensures rose { (a : PlainSpace S) → ⟦<PlainSpace<S> as Space>⟧.GoesOn a self
+            → Rose (⟦<PlainSpace<S> as Space>⟧.faults a) (⟦<PlainSpace<S> as Space>⟧.faults self)
             → SomeRose (S.view (store_of a)) (S.view result) }
     {
         let PlainSpace {
@@ -88,12 +99,16 @@ impl<S: Store> PlainSpace<S> {
 impl<S: Store> Kept for PlainSpace<S> {
     ghost use Rattle.plain_space.specs.Alike.{IsAlike, alike_itself, alike_on};
 
-    ghost Alike = { λ a b. IsAlike S.tells_files S.tells_images (S.view a.store) (S.view b.store) (S.leaves a.store) (S.leaves b.store) (S.past a.store) (S.past b.store) a b };
+    ghost Alike = { λ a b. IsAlike S.tells_files S.tells_images (S.view a.store) (S.view b.store) (S.leaves a.store)
+        (S.leaves b.store) (S.past a.store) (S.past b.store) a b };
 
-    ghost reflexive = { λ a. alike_itself S.tells_files S.tells_images (S.view a.store) (S.leaves a.store) (S.past a.store) a };
+    ghost reflexive = { λ a. alike_itself S.tells_files S.tells_images (S.view a.store) (S.leaves a.store)
+        (S.past a.store) a };
 
-    ghost transitive = { λ a b c first second. alike_on S.tells_files S.tells_images (S.view a.store) (S.view b.store) (S.view c.store)
-        (S.leaves a.store) (S.leaves b.store) (S.leaves c.store) (S.past a.store) (S.past b.store) (S.past c.store) a b c first second };
+    ghost transitive = { λ a b c first second. alike_on S.tells_files S.tells_images (S.view a.store) (S.view b.store)
+        (S.view c.store)
+        (S.leaves a.store) (S.leaves b.store) (S.leaves c.store) (S.past a.store) (S.past b.store)
+        (S.past c.store) a b c first second };
 }
 
 impl<S: Store> Space for PlainSpace<S> {
@@ -118,7 +133,8 @@ impl<S: Store> Space for PlainSpace<S> {
 
     ghost moment = { λ s. (S.view s.store).moment };
 
-    ghost GoesOn = { λ a b. CameFrom S.tells_files S.tells_images (S.view a.store) (S.view b.store) (S.leaves a.store) (S.leaves b.store) (S.past a.store) (S.past b.store) a b };
+    ghost GoesOn = { λ a b. CameFrom S.tells_files S.tells_images (S.view a.store) (S.view b.store) (S.leaves a.store)
+        (S.leaves b.store) (S.past a.store) (S.past b.store) a b };
 
     ghost Steady = { λ _. ⊥ };
 
@@ -194,12 +210,16 @@ impl<S: Store> Space for PlainSpace<S> {
         Ok(CommitAnswer::NoOnion)
     }
 
-    ghost alike = { λ a b h. view_alike S.tells_files S.tells_images (S.view a.store) (S.view b.store) (S.leaves a.store) (S.leaves b.store) (S.past a.store) (S.past b.store) a b h };
+    ghost alike = { λ a b h. view_alike S.tells_files S.tells_images (S.view a.store) (S.view b.store)
+        (S.leaves a.store) (S.leaves b.store) (S.past a.store) (S.past b.store) a b h };
 
-    ghost goes_alike = { λ a b h. came_alike S.tells_files S.tells_images (S.view a.store) (S.view b.store) (S.leaves a.store) (S.leaves b.store) (S.past a.store) (S.past b.store) a b h };
+    ghost goes_alike = { λ a b h. came_alike S.tells_files S.tells_images (S.view a.store) (S.view b.store)
+        (S.leaves a.store) (S.leaves b.store) (S.past a.store) (S.past b.store) a b h };
 
-    ghost goes_further = { λ a b c first second. came_on S.tells_files S.tells_images (S.view a.store) (S.view b.store) (S.view c.store)
-        (S.leaves a.store) (S.leaves b.store) (S.leaves c.store) (S.past a.store) (S.past b.store) (S.past c.store) a b c first second };
+    ghost goes_further = { λ a b c first second. came_on S.tells_files S.tells_images (S.view a.store) (S.view b.store)
+        (S.view c.store)
+        (S.leaves a.store) (S.leaves b.store) (S.leaves c.store) (S.past a.store) (S.past b.store)
+        (S.past c.store) a b c first second };
 
     ghost sound = { λ a. are_regions S.tells_files (S.view a.store) a.id.n a.end a.prepared.items a.short };
 }

@@ -1,6 +1,7 @@
 -- The grammar of the script language: which bytes are a line of which command.
 -- Cited by `read_line`, and by the commands of a whole script.
-use Rattle.std.specs.Prelude.{◌≡◌, ℕ, ◌≤◌, nat_le, ◌==◌, Bool, true, false, not, ◌&&◌, List, [], ◌∷◌, length, codes, Option, Some, None, is_some, if◌then◌else◌}
+use Rattle.std.specs.Prelude.{◌≡◌, ℕ, ◌≤◌, nat_le, ◌==◌, Bool, true, false, not, ◌&&◌, List, [], ◌∷◌, length, codes}
+use Rattle.std.specs.Prelude.{Option, Some, None, is_some, if◌then◌else◌}
 use Rattle.std.specs.List.{list_all}
 use Rattle.h5_base.specs.Names.{IsComment}
 use Rattle.dtype.specs.Values.{CanHold}
@@ -59,7 +60,8 @@ begins_quoted (s ∷ q ∷ text) = s == 32 && q == 34
 -- a value is next: a number's word, or a text in double quotes, which may hold spaces
 abbrev pub IsValue : List ℕ → Value → List ℕ → Type 0
 IsValue text (value.Num z) more = Next IsInteger text z more
-IsValue text (value.Text bytes) more = (inside : List ℕ) × (next_quoted text ≡ Some (inside, more)) × IsText Quotes inside bytes
+IsValue text (value.Text bytes) more = (inside : List ℕ) × (next_quoted text ≡ Some (inside, more))
+    × IsText Quotes inside bytes
 
 -- ---- the arguments of commands
 
@@ -78,7 +80,8 @@ IsKey word text = (more : List ℕ) × (next_word text ≡ Some (word, more))
 -- sizes behind this word, where it is next
 abbrev pub IsOption : (maximum : Bool) → List ℕ → List ℕ → Option (List ℕ) → List ℕ → Type 0
 IsOption maximum word text None more = (IsKey word text → ⊥) × (text ≡ more)
-IsOption maximum word text (Some sizes) more = (after : List ℕ) × (next_word text ≡ Some (word, after)) × Next (IsSizes maximum) after sizes more
+IsOption maximum word text (Some sizes) more = (after : List ℕ) × (next_word text ≡ Some (word, after))
+    × Next (IsSizes maximum) after sizes more
 
 -- as many chunk sizes as sizes, at least one, and none of them 0
 abbrev pub is_chunk : List ℕ → Option (List ℕ) → Bool
@@ -107,10 +110,12 @@ pub record IsShape (text dims : List ℕ) (chunk max : Option (List ℕ)) (more 
 -- a value that the type can hold behind `fill`, or nothing more
 abbrev pub IsFill : ElemType → List ℕ → Option Value → Type 0
 IsFill t text None = text ≡ []
-IsFill t text (Some v) = (after : List ℕ) × (next_word text ≡ Some (codes "fill", after)) × IsValue after v [] × CanHold t v
+IsFill t text (Some v) = (after : List ℕ) × (next_word text ≡ Some (codes "fill", after)) × IsValue after v []
+    × CanHold t v
 
 -- path, type, sizes, and `chunk`, `max` and `fill` in this order, each of which may be left out
-pub record IsMkdata (text : List ℕ) (path : List (List ℕ)) (t : ElemType) (dims : List ℕ) (chunk max : Option (List ℕ)) (fill : Option Value) : Type 0 where
+pub record IsMkdata (text : List ℕ) (path : List (List ℕ)) (t : ElemType) (dims : List ℕ) (chunk max : Option (List ℕ))
+    (fill : Option Value) : Type 0 where
   pub after_path : List ℕ
   pub after_type : List ℕ
   pub after_shape : List ℕ
@@ -121,7 +126,8 @@ pub record IsMkdata (text : List ℕ) (path : List (List ℕ)) (t : ElemType) (d
 
 -- a path and new sizes
 abbrev pub IsExtend : List ℕ → List (List ℕ) → List ℕ → Type 0
-IsExtend text path dims = (after : List ℕ) × Next (IsPathThat Anywhere) text path after × Next (IsSizes false) after dims []
+IsExtend text path dims = (after : List ℕ) × Next (IsPathThat Anywhere) text path after
+    × Next (IsSizes false) after dims []
 
 -- a box and values to the end of the line
 abbrev pub IsWrite : List ℕ → List (List ℕ) → List ℕ → List ℕ → List Value → Type 0

@@ -1,6 +1,7 @@
 -- How bytes are written in names and quoted texts, and which words are paths.
 -- Cited by the reader of a line.
-use Rattle.std.specs.Prelude.{◌≡◌, ℕ, ◌+◌, ◌*◌, ◌-◌, nat_le, Bool, true, false, not, ◌&&◌, ◌==◌, List, [], ◌∷◌, Option, Some, None, if◌then◌else◌, option_and_then, ◌⊎◌}
+use Rattle.std.specs.Prelude.{◌≡◌, ℕ, ◌+◌, ◌*◌, ◌-◌, nat_le, Bool, true, false, not, ◌&&◌, ◌==◌, List, [], ◌∷◌, Option}
+use Rattle.std.specs.Prelude.{Some, None, if◌then◌else◌, option_and_then, ◌⊎◌}
 use Rattle.std.specs.List.{AllZip}
 use Rattle.dtype.specs.Values as values
 use Rattle.script.specs.Words.{split_on, IsRun}
@@ -19,7 +20,8 @@ may_escape Quotes c = not (is_plain Quotes c)
 
 -- the number of a capital hexadecimal digit
 abbrev pub hex_digit : ℕ → Option ℕ
-hex_digit c = if nat_le 48 c && nat_le c 57 then Some (c - 48) else (if nat_le 65 c && nat_le c 70 then Some (c - 55) else None)
+hex_digit c = if nat_le 48 c && nat_le c 57 then Some (c - 48) else
+    (if nat_le 65 c && nat_le c 70 then Some (c - 55) else None)
 
 -- a byte that is written by its number
 abbrev pub escaped : Within → ℕ → ℕ → List ℕ → Option (ℕ × List ℕ)
@@ -27,7 +29,8 @@ escaped within high low rest = if may_escape within (16 * high + low) then Some 
 
 -- behind a backslash: `x` and two digits
 abbrev pub after_backslash : Within → List ℕ → Option (ℕ × List ℕ)
-after_backslash within (x ∷ h ∷ l ∷ rest) = if x == 120 then option_and_then (λ high. option_and_then (λ low. escaped within high low rest) (hex_digit l)) (hex_digit h) else None
+after_backslash within (x ∷ h ∷ l ∷ rest) = if x == 120 then option_and_then
+    (λ high. option_and_then (λ low. escaped within high low rest) (hex_digit l)) (hex_digit h) else None
 after_backslash within (x ∷ h ∷ []) = None
 after_backslash within (x ∷ []) = None
 after_backslash within [] = None
@@ -35,7 +38,8 @@ after_backslash within [] = None
 -- the byte that the front of a text stands for, and the rest of the text
 abbrev pub char_at : Within → List ℕ → Option (ℕ × List ℕ)
 char_at within [] = None
-char_at within (c ∷ rest) = if c == 92 then after_backslash within rest else (if is_plain within c then Some (c, rest) else None)
+char_at within (c ∷ rest) = if c == 92 then after_backslash within rest else
+    (if is_plain within c then Some (c, rest) else None)
 
 -- the front of the text stands for the byte
 abbrev pub IsChar : Within → List ℕ → ℕ → List ℕ → Type 0

@@ -1,6 +1,7 @@
 -- How numbers, sizes and integers are spelled.
 -- Cited by the reader of a line.
-use Rattle.std.specs.Prelude.{◌≡◌, ℕ, ◌^◌, ◌<◌, ◌≤ℤ◌, ◌<ℤ◌, neg_ℤ, ◌==◌, Bool, true, not, ◌&&◌, ℤ, pos, List, [], ◌∷◌, codes, ◌⊎◌}
+use Rattle.std.specs.Prelude.{◌≡◌, ℕ, ◌^◌, ◌<◌, ◌≤ℤ◌, ◌<ℤ◌, neg_ℤ, ◌==◌, Bool, true, not, ◌&&◌, ℤ, pos, List, [], ◌∷◌}
+use Rattle.std.specs.Prelude.{codes, ◌⊎◌}
 use Rattle.std.specs.List.{AllZip}
 use Rattle.std.specs.Str.Parse.{IsNumeral, digits_value, without_leading_sign, signed_digits_value}
 use Rattle.script.specs.Words.{split_on}

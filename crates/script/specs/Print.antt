@@ -1,6 +1,7 @@
 -- What an answer's line says: names and targets with escapes, sizes, types, elements and the words of refusals.
 -- Cited by `print_answer`, and by the theorem of a script's run.
-use Rattle.std.specs.Prelude.{◌≡◌, ℕ, ◌+◌, ◌*◌, ◌/◌, ◌%◌, ◌==◌, Bool, true, false, not, ◌&&◌, if◌then◌else◌, List, [], ◌∷◌, ◌++◌, length, codes, Option, Some, None}
+use Rattle.std.specs.Prelude.{◌≡◌, ℕ, ◌+◌, ◌*◌, ◌/◌, ◌%◌, ◌==◌, Bool, true, false, not, ◌&&◌, if◌then◌else◌, List, []}
+use Rattle.std.specs.Prelude.{◌∷◌, ◌++◌, length, codes, Option, Some, None}
 use Rattle.std.specs.Int.{is_in_range}
 use Rattle.std.specs.List.{flat_map, slice_range, range_with_len}
 use Rattle.std.specs.Fmt.{decimal}
@@ -69,7 +70,8 @@ element_at t bytes i = slice_range bytes (i * size_of t) (i * size_of t + size_o
 
 -- each element behind a space
 abbrev pub values_text : ElemType → List ℕ → List ℕ
-values_text t bytes = flat_map (λ i. 32 ∷ value_text (value_of t (element_at t bytes i))) (range_with_len 0 (length bytes / size_of t))
+values_text t bytes = flat_map (λ i. 32 ∷ value_text (value_of t (element_at t bytes i)))
+    (range_with_len 0 (length bytes / size_of t))
 
 -- ---- links
 
@@ -115,7 +117,8 @@ filtered_text filtered = if filtered then codes " filtered" else []
 -- type, sizes, maximum sizes and chunk sizes of a dataset
 abbrev pub layout_text : ElemType → List ℕ → List ℕ → Option (List ℕ) → List ℕ
 layout_text t dims max chunk =
-    type_text t ++ codes " dims " ++ sizes_text false dims ++ codes " max " ++ sizes_text true max ++ codes " chunk " ++ chunk_text chunk
+    type_text t ++ codes " dims " ++ sizes_text false dims ++ codes " max " ++ sizes_text true max ++ codes " chunk "
+    ++ chunk_text chunk
 
 abbrev pub answer_text : Answer → List ℕ
 answer_text answer.Done = codes "ok"
@@ -123,7 +126,8 @@ answer_text (answer.Values t bytes) = codes "ok" ++ values_text t bytes
 answer_text (answer.Links items) = codes "ok" ++ flat_map link_text items
 answer_text (answer.Group links) = codes "ok group " ++ decimal links
 answer_text (answer.Dataset t dims max chunk fill filtered) =
-    codes "ok data " ++ layout_text t dims max chunk ++ codes " fill " ++ value_text (value_of t fill) ++ filtered_text filtered
+    codes "ok data " ++ layout_text t dims max chunk ++ codes " fill " ++ value_text
+    (value_of t fill) ++ filtered_text filtered
 answer_text (answer.Soft target) = codes "ok link " ++ name_text target
 answer_text answer.Other = codes "ok other"
 answer_text (answer.Committed rev pages) = codes "ok rev " ++ decimal rev ++ codes " pages " ++ decimal pages

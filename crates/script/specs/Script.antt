@@ -47,7 +47,8 @@ abbrev pub two_lines : List ℕ
 two_lines = codes "ls /" ++ 10 ∷ codes "flush"
 
 abbrev pub TwoLines : Type 0
-TwoLines = (lines two_lines ≡ codes "ls /" ∷ codes "flush" ∷ []) × AreCommands two_lines (Some (command.Ls []) ∷ Some command.Flush ∷ [])
+TwoLines = (lines two_lines ≡ codes "ls /" ∷ codes "flush" ∷ [])
+    × AreCommands two_lines (Some (command.Ls []) ∷ Some command.Flush ∷ [])
 
 -- an empty line is a line, and what stands behind the last LF is none where it has no byte
 abbrev pub EmptyLines : Type 0

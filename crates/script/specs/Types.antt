@@ -1,6 +1,7 @@
 -- Which words are types.
 -- Cited by the reader of a line.
-use Rattle.std.specs.Prelude.{◌≡◌, ℕ, ◌==◌, Bool, true, false, ◌&&◌, if◌then◌else◌, List, [], ◌∷◌, Option, Some, None, option_and_then}
+use Rattle.std.specs.Prelude.{◌≡◌, ℕ, ◌==◌, Bool, true, false, ◌&&◌, if◌then◌else◌, List, [], ◌∷◌, Option, Some, None}
+use Rattle.std.specs.Prelude.{option_and_then}
 use Rattle.dtype.specs.Types.{IsTextSize}
 use Rattle.dtype.specs.declared.types.Pad.{Pad}
 use Rattle.dtype.specs.declared.types.Pad.TheVariants.{Nul, Ended, Space}
@@ -18,13 +19,15 @@ order_of c d = if c == 108 && d == 101 then Some false else (if c == 98 && d == 
 
 -- `16`, `32` and `64` bits
 abbrev pub wide_size : ℕ → ℕ → Option ℕ
-wide_size c d = if c == 49 && d == 54 then Some 2 else (if c == 51 && d == 50 then Some 4 else (if c == 54 && d == 52 then Some 8 else None))
+wide_size c d = if c == 49 && d == 54 then Some 2 else
+    (if c == 51 && d == 50 then Some 4 else (if c == 54 && d == 52 then Some 8 else None))
 
 abbrev pub narrow_size : ℕ → Option ℕ
 narrow_size c = if c == 56 then Some 1 else None
 
 abbrev pub int_of : Option Bool → Option ℕ → Option Bool → Option ElemType
-int_of signed size big = option_and_then (λ s. option_and_then (λ n. option_and_then (λ b. Some (elem.Int n s b)) big) size) signed
+int_of signed size big = option_and_then (λ s. option_and_then
+    (λ n. option_and_then (λ b. Some (elem.Int n s b)) big) size) signed
 
 -- an integer's sign, bits and order
 abbrev pub int_type : List ℕ → Option ElemType
@@ -51,4 +54,5 @@ padding (c ∷ rest) = if c == 122 then (Ended, rest) else (if c == 115 then (Sp
 -- the word spells the type
 abbrev pub IsType : List ℕ → ElemType → Type 0
 IsType w (elem.Int size signed big) = int_type w ≡ Some (elem.Int size signed big)
-IsType w (elem.Text size pad) = (rest digits : List ℕ) × (after_str w ≡ Some rest) × (padding rest ≡ (pad, digits)) × IsNumber digits size × IsTextSize size
+IsType w (elem.Text size pad) = (rest digits : List ℕ) × (after_str w ≡ Some rest) × (padding rest ≡ (pad, digits))
+    × IsNumber digits size × IsTextSize size

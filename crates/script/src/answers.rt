@@ -3,7 +3,8 @@ ghost use Rattle.std.specs.List.{flat_map};
 ghost use Rattle.std.specs.Fmt.{decimal};
 ghost use Rattle.dtype.specs.Types.{IsElemType, size_of};
 ghost use Rattle.dtype.specs.Values.{value_of, value_text};
-ghost use Rattle.script.specs.Print.{HasText, answer_text, code_text, element_at, filtered_text, layout_text, link_text, shown_letter, target_text, values_text};
+ghost use Rattle.script.specs.Print.{HasText, answer_text, code_text, element_at, filtered_text, layout_text};
+ghost use Rattle.script.specs.Print.{link_text, shown_letter, target_text, values_text};
 
 use crate::texts::{put_chunk, put_name, put_number, put_sizes, put_type};
 use crate::{Answer, Code, LinkLine, Shown};
@@ -139,7 +140,8 @@ fn put_fill(
 ) -> Result<(), NoMemory>
     requires valid { IsElemType elem_type.now }
     requires whole { length fill.now ≡ size_of elem_type.now }
-    ensures { OnOk result (text.new.items ≡ text.old.items ++ (codes " fill " ++ value_text (value_of elem_type.now fill.now) ++ filtered_text filtered)) }
+    ensures { OnOk result (text.new.items ≡ text.old.items ++
+        (codes " fill " ++ value_text (value_of elem_type.now fill.now) ++ filtered_text filtered)) }
 {
     append(text, b" fill ")?;
     put_value(alloc, text, elem_type, fill.as_slice())?;

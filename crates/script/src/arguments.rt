@@ -18,7 +18,8 @@ use std::alloc::Global;
 /// The path of the next word, and the rest.
 pub(crate) fn take_path(alloc: Global, leads: Leads, text: &[u8]) -> Result<(Path, &[u8]), LineStop>
     ensures found { IfOk result (λ x. Next (IsPathThat leads) text.now x.0 x.1.now) }
-    ensures bad { result ≡ Err LineStop.BadLine → (p : List (List ℕ)) → (more : List ℕ) → Next (IsPathThat leads) text.now p more → ⊥ }
+    ensures bad { result ≡ Err LineStop.BadLine → (p : List (List ℕ)) → (more : List ℕ)
+        → Next (IsPathThat leads) text.now p more → ⊥ }
 {
     match next_word(text) {
         Some((word, rest)) => Ok((read_path_that(alloc, leads, word)?, rest)),
@@ -33,7 +34,8 @@ pub(crate) fn take_sizes(
     text: &[u8],
 ) -> Result<(Dims, &[u8]), LineStop>
     ensures found { IfOk result (λ x. Next (IsSizes maximum) text.now x.0 x.1.now) }
-    ensures bad { result ≡ Err LineStop.BadLine → (ns : List ℕ) → (more : List ℕ) → Next (IsSizes maximum) text.now ns more → ⊥ }
+    ensures bad { result ≡ Err LineStop.BadLine → (ns : List ℕ) → (more : List ℕ)
+        → Next (IsSizes maximum) text.now ns more → ⊥ }
 {
     match next_word(text) {
         Some((word, rest)) => Ok((read_sizes(alloc, maximum, word)?, rest)),
@@ -67,7 +69,8 @@ pub(crate) struct Place {
 /// The path and the box of the next three words, and the rest.
 pub(crate) fn take_box(alloc: Global, text: &[u8]) -> Result<(Place, &[u8]), LineStop>
     ensures found { IfOk result (λ x. IsBox text.now x.0.path x.0.start x.0.count x.1.now) }
-    ensures bad { result ≡ Err LineStop.BadLine → (p : List (List ℕ)) → (start count more : List ℕ) → IsBox text.now p start count more → ⊥ }
+    ensures bad { result ≡ Err LineStop.BadLine → (p : List (List ℕ)) → (start count more : List ℕ)
+        → IsBox text.now p start count more → ⊥ }
 {
     let (path, text) = take_path(alloc, Leads::Anywhere, text)?;
     let (start, text) = take_sizes(alloc, false, text)?;

@@ -25,7 +25,8 @@ fn take_option<'a>(
     text: &'a [u8],
 ) -> Result<(Option<Dims>, &'a [u8]), LineStop>
     ensures found { IfOk result (λ x. IsOption maximum key.now text.now x.0 x.1.now) }
-    ensures bad { result ≡ Err LineStop.BadLine → (d : Option (List ℕ)) → (more : List ℕ) → IsOption maximum key.now text.now d more → ⊥ }
+    ensures bad { result ≡ Err LineStop.BadLine → (d : Option (List ℕ)) → (more : List ℕ)
+        → IsOption maximum key.now text.now d more → ⊥ }
 {
     match next_word(text) {
         Some((word, after)) => {
@@ -95,7 +96,8 @@ struct Sizes {
 /// Sizes, chunk sizes and maximum sizes, and the rest.
 fn take_sizing(alloc: Global, text: &[u8]) -> Result<(Sizes, &[u8]), LineStop>
     ensures found { IfOk result (λ x. IsSizing text.now x.0.dims x.0.chunk x.0.max x.1.now) }
-    ensures bad { result ≡ Err LineStop.BadLine → (d : List ℕ) → (c m : Option (List ℕ)) → (more : List ℕ) → IsSizing text.now d c m more → ⊥ }
+    ensures bad { result ≡ Err LineStop.BadLine → (d : List ℕ) → (c m : Option (List ℕ)) → (more : List ℕ)
+        → IsSizing text.now d c m more → ⊥ }
 {
     let (dims, text) = take_sizes(alloc, false, text)?;
     let (chunk, text) = take_option(alloc, false, b"chunk", text)?;
@@ -105,7 +107,8 @@ fn take_sizing(alloc: Global, text: &[u8]) -> Result<(Sizes, &[u8]), LineStop>
 
 /// Whether the sizes fit one another.
 fn is_fitting(sizes: &Sizes) -> bool
-    ensures { result ≡ (is_chunk sizes.now.dims sizes.now.chunk && is_maximum sizes.now.dims sizes.now.chunk sizes.now.max) }
+    ensures { result ≡ (is_chunk sizes.now.dims sizes.now.chunk && is_maximum sizes.now.dims sizes.now.chunk
+        sizes.now.max) }
 {
     let dims = sizes.dims.as_slice();
     is_chunk(dims, &sizes.chunk) && is_maximum(dims, &sizes.chunk, &sizes.max)
@@ -114,7 +117,8 @@ fn is_fitting(sizes: &Sizes) -> bool
 /// Sizes, chunk sizes and maximum sizes that fit one another, and the rest.
 fn take_shape(alloc: Global, text: &[u8]) -> Result<(Sizes, &[u8]), LineStop>
     ensures found { IfOk result (λ x. IsShape text.now x.0.dims x.0.chunk x.0.max x.1.now) }
-    ensures bad { result ≡ Err LineStop.BadLine → (d : List ℕ) → (c m : Option (List ℕ)) → (more : List ℕ) → IsShape text.now d c m more → ⊥ }
+    ensures bad { result ≡ Err LineStop.BadLine → (d : List ℕ) → (c m : Option (List ℕ)) → (more : List ℕ)
+        → IsShape text.now d c m more → ⊥ }
 {
     let (sizes, rest) = take_sizing(alloc, text)?;
     if !is_fitting(&sizes) {

@@ -71,7 +71,8 @@ fn read_size(maximum: bool, word: &[u8]) -> Result<u64, LineStop>
 
 fn read_list(alloc: Global, maximum: bool, word: &[u8]) -> Result<Vec<u64>, LineStop>
     ensures found { IfOk result (λ v. AllZip (IsSize maximum) (split_on 44 word.now) v.items) }
-    ensures bad { result ≡ Err LineStop.BadLine → (ns : List ℕ) → AllZip (IsSize maximum) (split_on 44 word.now) ns → ⊥ }
+    ensures bad { result ≡ Err LineStop.BadLine → (ns : List ℕ) → AllZip (IsSize maximum) (split_on 44 word.now) ns
+        → ⊥ }
 {
     let pieces = split(alloc, b',', word)?;
     let mut sizes = Vec::new(alloc);

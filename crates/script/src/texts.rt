@@ -1,7 +1,8 @@
 ghost use Rattle.std.specs.Prelude.{◌≡◌, ◌*◌, ◌++◌, ◌∷◌, OnOk};
 ghost use Rattle.std.specs.Fmt.{decimal};
 ghost use Rattle.std.specs.List.{flat_map};
-ghost use Rattle.script.specs.Print.{is_plain_name, name_symbol, name_text, size_text, sizes_text, chunk_text, pad_text, sign_text, order_text, type_text};
+ghost use Rattle.script.specs.Print.{is_plain_name, name_symbol, name_text, size_text, sizes_text, chunk_text};
+ghost use Rattle.script.specs.Print.{pad_text, sign_text, order_text, type_text};
 
 use dtype::{Dims, ElemType, Pad, append, append_escape};
 use h5_base::NoMemory;
@@ -119,7 +120,8 @@ fn put_int(
     signed: bool,
     big: bool,
 ) -> Result<(), NoMemory>
-    ensures { OnOk result (text.new.items ≡ text.old.items ++ (sign_text signed ++ decimal (8 * size) ++ order_text big)) }
+    ensures { OnOk result (text.new.items ≡ text.old.items ++
+        (sign_text signed ++ decimal (8 * size) ++ order_text big)) }
 {
     append(
         text,

@@ -3,7 +3,8 @@ ghost use Rattle.std.specs.Option.{option_map, SomeIff};
 ghost use Rattle.dtype.specs.Types.{IsTextSize};
 ghost use Rattle.dtype.specs.declared.types.ElemType.{ElemType};
 ghost use Rattle.script.specs.Numbers.{IsNumber};
-ghost use Rattle.script.specs.Types.{sign_of, order_of, wide_size, narrow_size, int_of, int_type, after_str, padding, IsType};
+ghost use Rattle.script.specs.Types.{sign_of, order_of, wide_size, narrow_size, int_of, int_type, after_str, padding};
+ghost use Rattle.script.specs.Types.{IsType};
 
 use crate::numbers::read_u64;
 use dtype::{ElemType, Pad};

@@ -1,4 +1,5 @@
-ghost use Rattle.std.specs.Prelude.{◌≡◌, ◌+◌, ◌<◌, ◌≤◌, ◌∷◌, ◌==◌, [], length, take, drop, map, position, IfOk, IfSome, IfNone, IsTrue, ◌↔◌};
+ghost use Rattle.std.specs.Prelude.{◌≡◌, ◌+◌, ◌<◌, ◌≤◌, ◌∷◌, ◌==◌, [], length, take, drop, map, position, IfOk, IfSome};
+ghost use Rattle.std.specs.Prelude.{IfNone, IsTrue, ◌↔◌};
 ghost use Rattle.std.specs.Option.{option_map};
 ghost use Rattle.script.specs.Words.{split_on, before_len, next_word};
 
@@ -13,7 +14,8 @@ fn position_of(bytes: &[u8], c: u8) -> Option<usize>
 /// The first place of c.
 fn find(bytes: &[u8], c: u8) -> Option<usize>
     ensures within { IfSome result (λ at. at < length bytes.now) }
-    ensures found { IfSome result (λ at. split_on c bytes.now ≡ take at bytes.now ∷ split_on c (drop (at + 1) bytes.now)) }
+    ensures found { IfSome result (λ at. split_on c bytes.now ≡ take at bytes.now ∷ split_on c
+        (drop (at + 1) bytes.now)) }
     ensures none { IfNone result (split_on c bytes.now ≡ bytes.now ∷ []) }
 {
     position_of(bytes, c)

@@ -1,4 +1,5 @@
-ghost use Rattle.std.specs.Prelude.{◌≡◌, ◌+◌, ◌<◌, ◌≤◌, ◌++◌, ◌∷◌, ◌==◌, length, take, drop, position, IfSome, IfNone, IfOk, OnErr, IsTrue, [], vec_len, vec_capacity};
+ghost use Rattle.std.specs.Prelude.{◌≡◌, ◌+◌, ◌<◌, ◌≤◌, ◌++◌, ◌∷◌, ◌==◌, length, take, drop, position, IfSome, IfNone};
+ghost use Rattle.std.specs.Prelude.{IfOk, OnErr, IsTrue, [], vec_len, vec_capacity};
 ghost use Rattle.outside.specs.Causes.{HasCause};
 ghost use Rattle.script_lines.specs.Lines.{HasNoLf, most_kept};
 

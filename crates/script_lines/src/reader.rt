@@ -1,4 +1,5 @@
-ghost use Rattle.std.specs.Prelude.{◌≡◌, ◌⊎◌, ◌↔◌, ◌+◌, ◌<◌, ◌≤◌, ◌++◌, ◌∷◌, [], List, ℕ, length, take, true, false, IsTrue, IfOk, OnErr, IsErrOf, Ok};
+ghost use Rattle.std.specs.Prelude.{◌≡◌, ◌⊎◌, ◌↔◌, ◌+◌, ◌<◌, ◌≤◌, ◌++◌, ◌∷◌, [], List, ℕ, length, take, true, false};
+ghost use Rattle.std.specs.Prelude.{IsTrue, IfOk, OnErr, IsErrOf, Ok};
 ghost use Rattle.std.specs.List.{Contains};
 ghost use Rattle.outside.specs.Causes.{Rose};
 ghost use Rattle.script_lines.specs.Lines.{HasNoLf, IsNext, most_kept, most_taken, spent};
@@ -88,8 +89,10 @@ impl LineReader {
 
     /// Moves what is held to the line, up to an LF, which is dropped: whether there was one.
     fn take_line(&mut self) -> bool
-        ensures ended { result ≡ true → (front : List ℕ) × HasNoLf front × (self.old.held ≡ front ++ 10 ∷ self.new.held) × (self.new.line ≡ take most_kept (self.old.line ++ front)) }
-        ensures open { result ≡ false → HasNoLf self.old.held × (self.new.held ≡ []) × (self.new.line ≡ take most_kept (self.old.line ++ self.old.held)) }
+        ensures ended { result ≡ true → (front : List ℕ) × HasNoLf front × (self.old.held ≡ front ++ 10 ∷ self.new.held)
+            × (self.new.line ≡ take most_kept (self.old.line ++ front)) }
+        ensures open { result ≡ false → HasNoLf self.old.held × (self.new.held ≡ [])
+            × (self.new.line ≡ take most_kept (self.old.line ++ self.old.held)) }
         ensures taken { self.new.taken ≡ self.old.taken }
         ensures bounded { self.new.taken ≤ most_taken }
         ensures within { length self.old.held ≤ self.old.taken }
@@ -138,13 +141,15 @@ impl LineReader {
         Ok(count > 0)
     }
 
-    /// Finds the next line of a source, always the same one. After `Last` and `End` a further call asks the source again;
-    /// after a stop, what was taken of the line that was begun is lost.
+    /// Finds the next line of a source, always the same one. After `Last` and `End` a further call asks the source
+    /// again; after a stop, what was taken of the line that was begun is lost.
     pub fn next<I: Source>(&mut self, source: &mut I) -> Result<NextLine, ReadStop>
         // The line is the next one of what is held and what the source has left.
-        ensures next { IsTrue I.tells → IfOk result (λ n. IsNext n self.new.line (self.old.held ++ I.left source.old) (self.new.held ++ I.left source.new)) }
+        ensures next { IsTrue I.tells → IfOk result
+            (λ n. IsNext n self.new.line (self.old.held ++ I.left source.old) (self.new.held ++ I.left source.new)) }
         // Where none is read, what was taken since the last line has no LF.
-        ensures stopped { IsTrue I.tells → OnErr result ((begun : List ℕ) × HasNoLf begun × (self.old.held ++ I.left source.old ≡ begun ++ I.left source.new)) }
+        ensures stopped { IsTrue I.tells → OnErr result ((begun : List ℕ) × HasNoLf begun
+            × (self.old.held ++ I.left source.old ≡ begun ++ I.left source.new)) }
         ensures lost { OnErr result (self.new.held ≡ []) }
         ensures failed { IsErrOf result ReadStop.Failed → Rose (I.faults source.old) (I.faults source.new) }
         ensures later { I.faults source.old ≤ I.faults source.new }
@@ -152,7 +157,8 @@ impl LineReader {
         // 4,294,967,296 bytes were taken before a read answered the end; with an end fewer were.
         ensures limit { IsErrOf result ReadStop.Limit → self.new.taken ≡ most_taken }
         ensures ended { (result ≡ Ok NextLine.Last) ⊎ (result ≡ Ok NextLine.End) → self.new.taken < most_taken }
-        ensures counted { IsTrue I.tells → self.new.taken + length (I.left source.new) ≡ self.old.taken + length (I.left source.old) }
+        ensures counted { IsTrue I.tells → self.new.taken + length (I.left source.new) ≡ self.old.taken + length
+            (I.left source.old) }
 
         // A line whose LF is held comes before the source is asked again.
         ensures held { Contains self.old.held 10 → (result ≡ Ok NextLine.Line) × (source.new ≡ source.old) }

@@ -7,8 +7,10 @@ use Rattle.script_run.specs.Run.{IsAnswered, IsStopped, IsInPart}
 
 -- all answers of a script are some first part of them
 abbrev pub AnsweredInPart : Type 0
-AnsweredInPart = (prints : Bool) (t : Plain) (script : List ℕ) (ended : Ended) (old new : List ℕ) → IsAnswered prints t script ended old new → IsInPart prints t script old new
+AnsweredInPart = (prints : Bool) (t : Plain) (script : List ℕ) (ended : Ended) (old new : List ℕ)
+    → IsAnswered prints t script ended old new → IsInPart prints t script old new
 
 -- and so are those to the lines whose LF was taken
 abbrev pub StoppedInPart : Type 0
-StoppedInPart = (prints : Bool) (t : Plain) (script left old new : List ℕ) → IsStopped prints t script left old new → IsInPart prints t script old new
+StoppedInPart = (prints : Bool) (t : Plain) (script left old new : List ℕ) → IsStopped prints t script left old new
+    → IsInPart prints t script old new

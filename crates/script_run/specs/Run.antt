@@ -35,7 +35,8 @@ without_last (w ∷ v ∷ ws) = w ∷ without_last (v ∷ ws)
 abbrev pub lines_ended : List ℕ → List (List ℕ)
 lines_ended bytes = without_last (split_on 10 bytes)
 
--- The reading of the script stopped: just the lines whose LF was taken are answered. `left` are the bytes that weren't taken.
+-- The reading of the script stopped: just the lines whose LF was taken are answered. `left` are the bytes that weren't
+-- taken.
 pub record IsStopped (prints : Bool) (t : Plain) (script left : List ℕ) (old new : List ℕ) : Type 0 where
   pub taken : List ℕ
   pub script_is : script ≡ taken ++ left
@@ -67,7 +68,8 @@ abbrev pub after : Ended → Bool → Ended
 after ended done = if done then ended else SomeNot
 
 -- The line is answered.
-pub record IsLineAnswered (prints : Bool) (t : Plain) (line : List ℕ) (ended now : Ended) (old new : List ℕ) : Type 0 where
+pub record IsLineAnswered (prints : Bool) (t : Plain) (line : List ℕ) (ended now : Ended)
+    (old new : List ℕ) : Type 0 where
   pub command : Option Command
   pub means : Means line command
   pub now_is : now ≡ after ended (is_done (answer_to t command))

@@ -1,4 +1,5 @@
-ghost use Rattle.std.specs.Prelude.{◌≡◌, ◌≢◌, ◌≤◌, ◌++◌, ◌∷◌, [], Option, IsTrue, IfOk, OnOk, OnErr, IsErrOf, if◌then◌else◌};
+ghost use Rattle.std.specs.Prelude.{◌≡◌, ◌≢◌, ◌≤◌, ◌++◌, ◌∷◌, [], Option, IsTrue, IfOk, OnOk, OnErr, IsErrOf};
+ghost use Rattle.std.specs.Prelude.{if◌then◌else◌};
 ghost use Rattle.object_model.specs.declared.command.Command.{Command};
 ghost use Rattle.object_model.specs.Step.{Plain};
 ghost use Rattle.object_tree.specs.Sound.{IsSoundTree};
@@ -22,7 +23,8 @@ use tree_nodes::ObjectTree;
 /// What a line is answered, without its LF.
 fn answer_of(alloc: Global, tree: &ObjectTree, line: &[u8]) -> Result<Answer, NoMemory>
     requires { IsSoundTree tree.now }
-    ensures answered { IfOk result (λ a. (c : Option Command) × Means line.now c × ((t : Plain) → IsTreeOf tree.now t → a ≡ answer_to t c)) }
+    ensures answered { IfOk result (λ a. (c : Option Command) × Means line.now c
+        × ((t : Plain) → IsTreeOf tree.now t → a ≡ answer_to t c)) }
     ensures text { IfOk result HasText }
 {
     match read_line(alloc, line) {
@@ -88,8 +90,10 @@ pub(crate) fn answer_line<O: Sink>(
     ended: Ended,
 ) -> Result<Ended, ScriptStop>
     requires { IsSoundTree tree.now }
-    ensures answered { (t : Plain) → IsTreeOf tree.now t → IfOk result (λ now. IsLineAnswered O.tells t line.now ended now (O.written out.old) (O.written out.new)) }
-    ensures cut { (t : Plain) → IsTreeOf tree.now t → IsErrOf result ScriptStop.Output → IsLineCut O.tells t line.now (O.written out.old) (O.written out.new) }
+    ensures answered { (t : Plain) → IsTreeOf tree.now t
+        → IfOk result (λ now. IsLineAnswered O.tells t line.now ended now (O.written out.old) (O.written out.new)) }
+    ensures cut { (t : Plain) → IsTreeOf tree.now t → IsErrOf result ScriptStop.Output
+        → IsLineCut O.tells t line.now (O.written out.old) (O.written out.new) }
     ensures same { IsTrue O.tells → IsErrOf result ScriptStop.Memory → O.written out.new ≡ O.written out.old }
     ensures no_input { IsErrOf result ScriptStop.Input → ⊥ }
     ensures no_limit { IsErrOf result ScriptStop.Limit → ⊥ }

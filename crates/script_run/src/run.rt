@@ -26,13 +26,16 @@ pub fn answer_script<I: Source, O: Sink>(
         → IsAnswered O.tells t (I.left input.old) ended (O.written out.old) (O.written out.new)) }
     ensures read { IsTrue I.tells → OnOk result (I.left input.new ≡ []) }
     // The lines whose LF was read are answered.
-    ensures stopped { IsTrue I.tells → (IsErrOf result ScriptStop.Input ⊎ IsErrOf result ScriptStop.Limit) → (t : Plain) → IsTreeOf tree.now t
+    ensures stopped { IsTrue I.tells → (IsErrOf result ScriptStop.Input ⊎ IsErrOf result ScriptStop.Limit) → (t : Plain)
+        → IsTreeOf tree.now t
         → IsStopped O.tells t (I.left input.old) (I.left input.new) (O.written out.old) (O.written out.new) }
-    ensures in_part { IsTrue I.tells → (IsErrOf result ScriptStop.Output ⊎ IsErrOf result ScriptStop.Memory) → (t : Plain) → IsTreeOf tree.now t
+    ensures in_part { IsTrue I.tells → (IsErrOf result ScriptStop.Output ⊎ IsErrOf result ScriptStop.Memory)
+        → (t : Plain) → IsTreeOf tree.now t
         → IsInPart O.tells t (I.left input.old) (O.written out.old) (O.written out.new) }
     ensures input { IsErrOf result ScriptStop.Input → Rose (I.faults input.old) (I.faults input.new) }
     ensures output { IsErrOf result ScriptStop.Output → Rose (O.faults out.old) (O.faults out.new) }
-    ensures limit { IsTrue I.tells → IsErrOf result ScriptStop.Limit → length (I.left input.old) ≡ 2 ^ 32 + length (I.left input.new) }
+    ensures limit { IsTrue I.tells → IsErrOf result ScriptStop.Limit
+        → length (I.left input.old) ≡ 2 ^ 32 + length (I.left input.new) }
     ensures input_later { I.faults input.old ≤ I.faults input.new }
     ensures output_later { O.faults out.old ≤ O.faults out.new }
 {

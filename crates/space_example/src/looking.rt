@@ -111,20 +111,25 @@ fn found_at(alloc: Global, tree: &ObjectTree, path: &[LinkName]) -> Result<Optio
     }
 }
 
-/// Opens the file of a space whose first region begins at address 0, and looks up what a path of names leads to from its
-/// root on. An error is why the file isn't opened, or want of memory. The space is handed back.
+/// Opens the file of a space whose first region begins at address 0, and looks up what a path of names leads to from
+/// its root on. An error is why the file isn't opened, or want of memory. The space is handed back.
 pub fn lookup<V: Space>(alloc: Global, space: V, path: &[LinkName]) -> Looked<V>
     requires stands { V.Stands space }
     requires first { ((V.view space).regions class.Super).start ≡ 0 }
     // The file holds a tree, and what is answered is what the path leads to in it.
-    ensures found { IsTrue V.tells → IfOk result.answer (λ o. (t : Full) × IsFileTree (V.view space).array (bounds_of (V.view space) None) t × (o ≡ looked t path.now)) }
+    ensures found { IsTrue V.tells → IfOk result.answer (λ o. (t : Full)
+        × IsFileTree (V.view space).array (bounds_of (V.view space) None) t × (o ≡ looked t path.now)) }
     // In every tree that the file holds the path leads to what is answered.
-    ensures there { IsTrue V.tells → IfOk result.answer (λ o. (t : Full) → IsFileTree (V.view space).array (bounds_of (V.view space) None) t → o ≡ looked t path.now) }
+    ensures there { IsTrue V.tells → IfOk result.answer (λ o. (t : Full)
+        → IsFileTree (V.view space).array (bounds_of (V.view space) None) t → o ≡ looked t path.now) }
     // What is refused is shown by the bytes.
-    ensures refused { IsTrue V.tells → IfErr result.answer (λ stop. IfSome (refusal_of stop) (IsFileRefused (V.view space).array (bounds_of (V.view space) None))) }
+    ensures refused { IsTrue V.tells → IfErr result.answer
+        (λ stop. IfSome (refusal_of stop) (IsFileRefused (V.view space).array (bounds_of (V.view space) None))) }
     // A file whose tree is held within the limits is refused by no line.
-    ensures complete { IsTrue V.tells → (s : Superblock) (g : GroupAt) (ls : FullLinks) (h : HoldsFull (V.view space).array (bounds_of (V.view space) None) s g ls)
-        → IsWithinLimits (V.view space).array (all_blocks s h.driver (Group g ls)) (Group g ls) → IfErr result.answer (λ stop. refusal_of stop ≡ None) }
+    ensures complete { IsTrue V.tells → (s : Superblock) (g : GroupAt) (ls : FullLinks)
+        (h : HoldsFull (V.view space).array (bounds_of (V.view space) None) s g ls)
+        → IsWithinLimits (V.view space).array (all_blocks s h.driver (Group g ls)) (Group g ls)
+        → IfErr result.answer (λ stop. refusal_of stop ≡ None) }
     ensures alike { V.Alike space result.space }
     ensures stands { (IsErrOf result.answer TreeStop.Failed → ⊥) → V.Stands result.space }
     ensures later { V.faults space ≤ V.faults result.space }

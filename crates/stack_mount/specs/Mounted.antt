@@ -31,7 +31,8 @@ pub record LacksSuper (b : Array) (end : ℕ) (reason : Refusal) : Type 0 where
 pub data IsRefused (b : Array) (end : ℕ) (reason : Refusal) : Type 0 where
   EmptyFile : end ≡ 0 → reason ≡ why.Absent → IsRefused b end reason
   NoSuper : end ≢ 0 → LacksSuper b end reason → IsRefused b end reason
-  ShortFile : (s : Superblock) → Spells s (super_bytes_of b (one_region end)) → end < s.end_at → reason ≡ why.Truncated end s.end_at
+  ShortFile : (s : Superblock) → Spells s (super_bytes_of b (one_region end)) → end < s.end_at
+      → reason ≡ why.Truncated end s.end_at
       → IsRefused b end reason
 
 -- The file is mounted: it isn't empty, a superblock is spelled, and the end that it stores is no greater.
@@ -54,8 +55,10 @@ abbrev pub store_left : {S : Type 0} → Result (PlainSpace S) (MountRefused S) 
 store_left (Ok space) = store_of space
 store_left (Err refused) = refused.store
 
--- What calls that change no file leave of a store: each image and each snapshot since is one that a stop could leave before.
-pub record IsOnlySeen (tells tells_images : Bool) (v w : View) (leaves new_leaves : Files → Type 0) (past new_past : Snapshot → Type 0) : Type 0 where
+-- What calls that change no file leave of a store: each image and each snapshot since is one that a stop could leave
+-- before.
+pub record IsOnlySeen (tells tells_images : Bool) (v w : View) (leaves new_leaves : Files
+    → Type 0) (past new_past : Snapshot → Type 0) : Type 0 where
   pub goes : Goes tells (λ _. ⊥) v w
   pub fewer : IsTrue tells_images → (c : Files) → new_leaves c → leaves c
   pub since : IsTrue tells_images → GoesOver (λ _. ⊥) leaves new_leaves past new_past

@@ -27,8 +27,10 @@ fn refusal_of(stop: SuperStop) -> Refusal
 // The superblock that the bytes below the end begin with.
 fn read_front<V: Space>(space: &mut V, end: u64) -> Result<Superblock, Stop>
     requires { V.Stands space.old }
-    ensures found { IsTrue V.tells → IfOk result (λ s. Spells s (super_bytes_of (V.view space.old).array (one_region end))) }
-    ensures lacks { IsTrue V.tells → IfErr result (λ stop. (why : Refusal) → stop ≡ Stop.Refused why → LacksSuper (V.view space.old).array end why) }
+    ensures found { IsTrue V.tells → IfOk result
+        (λ s. Spells s (super_bytes_of (V.view space.old).array (one_region end))) }
+    ensures lacks { IsTrue V.tells → IfErr result (λ stop. (why : Refusal) → stop ≡ Stop.Refused why
+        → LacksSuper (V.view space.old).array end why) }
     ensures failed { IsErrOf result Stop.Failed → Rose (V.faults space.old) (V.faults space.new) }
     ensures memory { IsErrOf result Stop.NoMemory → ⊥ }
     ensures alike { V.Alike space.old space.new }
@@ -48,11 +50,14 @@ fn read_front<V: Space>(space: &mut V, end: u64) -> Result<Superblock, Stop>
     }
 }
 
-/// Judges the file in a space whose first region begins at 0: whether it is empty, its superblock, and its end. One read.
+/// Judges the file in a space whose first region begins at 0: whether it is empty, its superblock, and its end. One
+/// read.
 pub(crate) fn judge<V: Space>(space: &mut V) -> Result<(), Stop>
     requires { V.Stands space.old }
-    ensures admitted { IsTrue V.tells → OnOk result (IsAdmitted (V.view space.old).array ((V.view space.old).ends class.Super)) }
-    ensures refused { IsTrue V.tells → IfErr result (λ stop. (why : Refusal) → stop ≡ Stop.Refused why → IsRefused (V.view space.old).array ((V.view space.old).ends class.Super) why) }
+    ensures admitted { IsTrue V.tells → OnOk result
+        (IsAdmitted (V.view space.old).array ((V.view space.old).ends class.Super)) }
+    ensures refused { IsTrue V.tells → IfErr result (λ stop. (why : Refusal) → stop ≡ Stop.Refused why
+        → IsRefused (V.view space.old).array ((V.view space.old).ends class.Super) why) }
     ensures failed { IsErrOf result Stop.Failed → Rose (V.faults space.old) (V.faults space.new) }
     ensures memory { IsErrOf result Stop.NoMemory → ⊥ }
     ensures alike { V.Alike space.old space.new }

@@ -23,12 +23,17 @@ fn open_file<S: Store>(
 ) -> Result<PlainSpace<S>, MountRefused<S>>
     ensures stands { IfOk result (λ space. ⟦<PlainSpace<S> as Space>⟧.Stands space) }
     ensures name { IfOk result (λ space. (S.view (store_of space)).names (id_of space) ≡ file.now) }
-    ensures view { IfOk result (λ space. ⟦<PlainSpace<S> as Space>⟧.view space ≡ view_of S.tells_files (S.view (store_of space)) (id_of space) (end_of space) []) }
-    ensures end { IsTrue S.tells_files → IfOk result (λ space. end_of space ≡ length (seen ((S.view store).files file.now))) }
-    ensures array { IsTrue S.tells_files → IfOk result (λ space. (⟦<PlainSpace<S> as Space>⟧.view space).array ≡ array_of (seen ((S.view store).files file.now))) }
+    ensures view { IfOk result (λ space. ⟦<PlainSpace<S> as Space>⟧.view space ≡ view_of S.tells_files
+        (S.view (store_of space)) (id_of space) (end_of space) []) }
+    ensures end { IsTrue S.tells_files → IfOk result
+        (λ space. end_of space ≡ length (seen ((S.view store).files file.now))) }
+    ensures array { IsTrue S.tells_files → IfOk result
+        (λ space. (⟦<PlainSpace<S> as Space>⟧.view space).array ≡ array_of (seen ((S.view store).files file.now))) }
     ensures no_line { IfErr result (λ refused. (why : Refusal) → refused.fault ≡ Stop.Refused why → ⊥) }
-    ensures failed { IfErr result (λ refused. refused.fault ≡ Stop.Failed → SomeRose (S.view store) (S.view refused.store)) }
-    ensures left { IsOnlySeen S.tells_files S.tells_images (S.view store) (S.view (store_left result)) (S.leaves store) (S.leaves (store_left result)) (S.past store) (S.past (store_left result)) }
+    ensures failed { IfErr result (λ refused. refused.fault ≡ Stop.Failed
+        → SomeRose (S.view store) (S.view refused.store)) }
+    ensures left { IsOnlySeen S.tells_files S.tells_images (S.view store) (S.view (store_left result)) (S.leaves store)
+        (S.leaves (store_left result)) (S.past store) (S.past (store_left result)) }
 {
     let _text = file.as_slice();
     let id = match store.file(file) {
@@ -57,8 +62,8 @@ fn open_file<S: Store>(
 
 /// Mounts a plain file, which is judged by its superblock and its end: the space of its first 2^48 bytes, or the store
 /// again with the first reason why it isn't mounted. The store is asked for the file's id, its length and at most 100
-/// bytes. No file is made or changed. `Failed` comes only where a count of the store rose, `NoMemory` where no memory is
-/// left.
+/// bytes. No file is made or changed. `Failed` comes only where a count of the store rose, `NoMemory` where no memory
+/// is left.
 pub fn mount<S: Store>(
     alloc: Global,
     file: &Name,
@@ -67,18 +72,25 @@ pub fn mount<S: Store>(
     // The space of the file.
     ensures stands { IfOk result (λ space. ⟦<PlainSpace<S> as Space>⟧.Stands space) }
     ensures name { IfOk result (λ space. (S.view (store_of space)).names (id_of space) ≡ file.now) }
-    ensures view { IfOk result (λ space. ⟦<PlainSpace<S> as Space>⟧.view space ≡ view_of S.tells_files (S.view (store_of space)) (id_of space) (end_of space) []) }
-    ensures array { IsTrue S.tells_files → IfOk result (λ space. (⟦<PlainSpace<S> as Space>⟧.view space).array ≡ array_of (seen ((S.view store).files file.now))) }
-    ensures end { IsTrue S.tells_files → IfOk result (λ space. end_of space ≡ length (seen ((S.view store).files file.now))) }
+    ensures view { IfOk result (λ space. ⟦<PlainSpace<S> as Space>⟧.view space ≡ view_of S.tells_files
+        (S.view (store_of space)) (id_of space) (end_of space) []) }
+    ensures array { IsTrue S.tells_files → IfOk result
+        (λ space. (⟦<PlainSpace<S> as Space>⟧.view space).array ≡ array_of (seen ((S.view store).files file.now))) }
+    ensures end { IsTrue S.tells_files → IfOk result
+        (λ space. end_of space ≡ length (seen ((S.view store).files file.now))) }
     // What is judged.
-    ensures admitted { IsTrue S.tells_files → OnOk result (IsAdmitted (array_of (seen ((S.view store).files file.now))) (length (seen ((S.view store).files file.now)))) }
+    ensures admitted { IsTrue S.tells_files → OnOk result
+        (IsAdmitted (array_of (seen ((S.view store).files file.now))) (length (seen ((S.view store).files file.now)))) }
     ensures refused { IsTrue S.tells_files → IfErr result (λ refused. (why : Refusal) → refused.fault ≡ Stop.Refused why
-        → IsRefused (array_of (seen ((S.view store).files file.now))) (length (seen ((S.view store).files file.now))) why) }
-    ensures failed { IfErr result (λ refused. refused.fault ≡ Stop.Failed → SomeRose (S.view store) (S.view refused.store)) }
+        → IsRefused (array_of (seen ((S.view store).files file.now)))
+        (length (seen ((S.view store).files file.now))) why) }
+    ensures failed { IfErr result (λ refused. refused.fault ≡ Stop.Failed
+        → SomeRose (S.view store) (S.view refused.store)) }
     // The store that is left, in the space or in the refusal.
     ensures goes { Goes S.tells_files (λ _. ⊥) (S.view store) (S.view (store_left result)) }
     ensures fewer { IsTrue S.tells_images → (c : Files) → S.leaves (store_left result) c → S.leaves store c }
-    ensures since { IsTrue S.tells_images → GoesOver (λ _. ⊥) (S.leaves store) (S.leaves (store_left result)) (S.past store) (S.past (store_left result)) }
+    ensures since { IsTrue S.tells_images → GoesOver (λ _. ⊥) (S.leaves store) (S.leaves (store_left result))
+        (S.past store) (S.past (store_left result)) }
 {
     let mut space = match open_file(alloc, file, store) {
         Ok(space) => space,

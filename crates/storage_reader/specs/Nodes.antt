@@ -20,7 +20,8 @@ refused_under b e k rank sizes (suc level) node = λ met key. IsChunkIndexRefuse
 
 -- Chunks and blocks were read: the chunks ascend from the first to the last of these ends, and the catalogue has the
 -- blocks beside those that it had.
-pub record Taken (Held : List Chunk → List Block → Type 0) (ends : Option Ends) (Keeps : List Block → Type 0) (met : List Block) : Type 0 where
+pub record Taken (Held : List Chunk → List Block → Type 0) (ends : Option Ends) (Keeps : List Block
+    → Type 0) (met : List Block) : Type 0 where
   pub chunks : List Chunk
   pub blocks : List Block
   pub held : Held chunks blocks

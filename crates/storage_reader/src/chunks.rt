@@ -1,4 +1,5 @@
-ghost use Rattle.std.specs.Prelude.{◌≡◌, ◌+◌, ◌++◌, ◌∷◌, [], ℕ, List, Option, IfErr, IfSome, IsErrOf, OnOk, IsTrue, length, false, true};
+ghost use Rattle.std.specs.Prelude.{◌≡◌, ◌+◌, ◌++◌, ◌∷◌, [], ℕ, List, Option, IfErr, IfSome, IsErrOf, OnOk, IsTrue};
+ghost use Rattle.std.specs.Prelude.{length, false, true};
 ghost use Rattle.outside.specs.Blocks.{Block};
 ghost use Rattle.outside.specs.Space.{bounds_of};
 ghost use Rattle.dtype.specs.Products.{product};
@@ -37,10 +38,13 @@ fn adopt_chunk<V: Space>(
 ) -> Result<(), TreeStop>
     requires form { IsForm form.now }
     requires rank { length key.now.offset ≡ form.now.rank }
-    ensures found { OnOk result (IsStored form.now.rank form.now.sizes key.now at (record { offset = key.now.offset; at = at } ∷ []) (record { start = at; len = product form.now.sizes } ∷ [])) }
-    ensures kept { OnOk result ((met : List Block) → Keeps V.view blocks.old met → Keeps V.view blocks.new (met ++ record { start = at; len = product form.now.sizes } ∷ [])) }
+    ensures found { OnOk result (IsStored form.now.rank form.now.sizes key.now at
+        (record { offset = key.now.offset; at = at } ∷ []) (record { start = at; len = product form.now.sizes } ∷ [])) }
+    ensures kept { OnOk result ((met : List Block) → Keeps V.view blocks.old met
+        → Keeps V.view blocks.new (met ++ record { start = at; len = product form.now.sizes } ∷ [])) }
     ensures refused { IfErr result (λ stop. (met : List Block) (own : Option (List ℕ)) → Keeps V.view blocks.old met
-        → IfSome (refusal_of stop) (IsChunkRefused (bounds_of (V.view (space_of blocks.old)) own) form.now.rank form.now.sizes node met key.now at)) }
+        → IfSome (refusal_of stop) (IsChunkRefused
+        (bounds_of (V.view (space_of blocks.old)) own) form.now.rank form.now.sizes node met key.now at)) }
     ensures no_fault { IsErrOf result TreeStop.Failed → ⊥ }
     ensures space { space_of blocks.new ≡ space_of blocks.old }
 {
@@ -72,10 +76,13 @@ pub(crate) fn adopt_chunks<V: Space>(
 ) -> Result<(), TreeStop>
     requires form { IsForm form.now }
     requires node { FitsChunkNode form.now.k form.now.rank node.now }
-    ensures found { OnOk result ((met : List Block) → Keeps V.view blocks.old met → (cs : List Chunk) × (bs : List Block)
-        × AreChildren (IsStored form.now.rank form.now.sizes) true node.now.keys node.now.children cs bs × AreAscending cs × Keeps V.view blocks.new (met ++ bs)) }
+    ensures found { OnOk result ((met : List Block) → Keeps V.view blocks.old met → (cs : List Chunk)
+        × (bs : List Block)
+        × AreChildren (IsStored form.now.rank form.now.sizes) true node.now.keys node.now.children cs bs
+        × AreAscending cs × Keeps V.view blocks.new (met ++ bs)) }
     ensures refused { IfErr result (λ stop. (met : List Block) (own : Option (List ℕ)) → Keeps V.view blocks.old met
-        → IfSome (refusal_of stop) (AreChunksRefused at (IsStored form.now.rank form.now.sizes) (IsChunkRefused (bounds_of (V.view (space_of blocks.old)) own) form.now.rank form.now.sizes at)
+        → IfSome (refusal_of stop) (AreChunksRefused at (IsStored form.now.rank form.now.sizes)
+        (IsChunkRefused (bounds_of (V.view (space_of blocks.old)) own) form.now.rank form.now.sizes at)
         true node.now.keys node.now.children [] met)) }
     ensures no_fault { IsErrOf result TreeStop.Failed → ⊥ }
     ensures space { space_of blocks.new ≡ space_of blocks.old }

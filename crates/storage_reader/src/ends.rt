@@ -29,7 +29,8 @@ pub(crate) fn comes_before(a: &Dims, b: &Dims) -> bool
 // The ends of the chunks of a node of level 0.
 pub(crate) fn ends_of(alloc: Global, node: &ChunkNode) -> Result<Option<Ends>, NoMemory>
     requires more { length node.now.keys ≡ length node.now.children + 1 }
-    ensures { IfOk result (λ x. (rank : ℕ) (sizes : List ℕ) (cs : List Chunk) (bs : List Block) → AreChildren (IsStored rank sizes) true node.now.keys node.now.children cs bs → HaveEnds x cs) }
+    ensures { IfOk result (λ x. (rank : ℕ) (sizes : List ℕ) (cs : List Chunk) (bs : List Block)
+        → AreChildren (IsStored rank sizes) true node.now.keys node.now.children cs bs → HaveEnds x cs) }
 {
     let keys = node.keys.as_slice();
     let count = node.children.len();
@@ -58,7 +59,8 @@ pub(crate) fn join(before: Option<Ends>, here: Option<Ends>) -> Option<Ends>
 
 // Whether the key before a child is at most each offset under it, or is free.
 fn is_from(is_first: bool, low: &Dims, ends: &Ends) -> bool
-    ensures { (cs : List Chunk) → AreEnds ends.now.first ends.now.last cs → AreAscending cs → (IsTrue result ↔ IsFrom is_first low.now cs) }
+    ensures { (cs : List Chunk) → AreEnds ends.now.first ends.now.last cs → AreAscending cs
+        → (IsTrue result ↔ IsFrom is_first low.now cs) }
 {
     is_first || !comes_before(&ends.first, low)
 }
@@ -66,14 +68,16 @@ fn is_from(is_first: bool, low: &Dims, ends: &Ends) -> bool
 // Whether the key behind child i is above each offset under it, or is free, as it is behind the last child.
 fn is_below(i: usize, children: &[u64], high: &Dims, ends: &Ends) -> bool
     requires { i < length children.now }
-    ensures { (cs : List Chunk) → AreEnds ends.now.first ends.now.last cs → AreAscending cs → (IsTrue result ↔ IsBelow (drop (i + 1) children.now) high.now cs) }
+    ensures { (cs : List Chunk) → AreEnds ends.now.first ends.now.last cs → AreAscending cs
+        → (IsTrue result ↔ IsBelow (drop (i + 1) children.now) high.now cs) }
 {
     i + 1 == children.len() || comes_before(&ends.last, high)
 }
 
 // Whether the offsets under a child follow those before them.
 fn follows(before: &Option<Ends>, ends: &Ends) -> bool
-    ensures { (done cs : List Chunk) → HaveEnds before.now done → AreEnds ends.now.first ends.now.last cs → AreAscending done → AreAscending cs
+    ensures { (done cs : List Chunk) → HaveEnds before.now done → AreEnds ends.now.first ends.now.last cs
+        → AreAscending done → AreAscending cs
         → (IsTrue result ↔ AreAscending (done ++ cs)) }
 {
     match before {
@@ -92,10 +96,13 @@ pub(crate) fn is_in_place(
     here: &Option<Ends>,
 ) -> bool
     requires { i < length children.now }
-    ensures yes { IsTrue result → (done cs : List Chunk) → HaveEnds before.now done → HaveEnds here.now cs → AreAscending done → AreAscending cs
+    ensures yes { IsTrue result → (done cs : List Chunk) → HaveEnds before.now done → HaveEnds here.now cs
+        → AreAscending done → AreAscending cs
         → IsInPlace (i == 0) low.now.offset high.now.offset (drop (i + 1) children.now) done cs }
-    ensures no { result ≡ false → (done cs : List Chunk) → HaveEnds before.now done → HaveEnds here.now cs → AreAscending done → AreAscending cs
-        → (node : ℕ) → AreOffsetsRefused node (i == 0) low.now.offset high.now.offset (drop (i + 1) children.now) done cs (Malformed node Tree) }
+    ensures no { result ≡ false → (done cs : List Chunk) → HaveEnds before.now done → HaveEnds here.now cs
+        → AreAscending done → AreAscending cs
+        → (node : ℕ) → AreOffsetsRefused node (i == 0) low.now.offset high.now.offset
+        (drop (i + 1) children.now) done cs (Malformed node Tree) }
 {
     let Some(ends) = here else {
         return true;

@@ -1,5 +1,5 @@
-//! Takes the blocks of a dataset's elements into the catalogue of a file's blocks: the one block of a contiguous dataset,
-//! or the nodes and chunks of a chunk index. No element is read.
+//! Takes the blocks of a dataset's elements into the catalogue of a file's blocks: the one block of a contiguous
+//! dataset, or the nodes and chunks of a chunk index. No element is read.
 #![tactic(auto)]
 
 mod chunks;

@@ -1,4 +1,5 @@
-ghost use Rattle.std.specs.Prelude.{◌≡◌, ◌+◌, ◌<◌, ◌≤◌, ◌++◌, ◌∷◌, [], ℕ, List, Option, None, IsTrue, IfOk, IfErr, IfSome, OnOk, IsErrOf, length, true, suc};
+ghost use Rattle.std.specs.Prelude.{◌≡◌, ◌+◌, ◌<◌, ◌≤◌, ◌++◌, ◌∷◌, [], ℕ, List, Option, None, IsTrue, IfOk, IfErr};
+ghost use Rattle.std.specs.Prelude.{IfSome, OnOk, IsErrOf, length, true, suc};
 ghost use Rattle.outside.specs.Array.{bytes_of};
 ghost use Rattle.outside.specs.Blocks.{Block};
 ghost use Rattle.outside.specs.Causes.{Rose};
@@ -7,7 +8,8 @@ ghost use Rattle.block_space.specs.Blocks.{Keeps, space_of};
 ghost use Rattle.block_reader.specs.Stops.{refusal_of};
 ghost use Rattle.node_codec.specs.ChunkNodes.{FitsChunkNode, SpellsChunkNode, chunk_node_len};
 ghost use Rattle.file_model.specs.Chunks.{AreChildren, Chunk, IsIndex, IsIndexed};
-ghost use Rattle.file_model.specs.RefusedChunks.{AreChunksRefused, IsChunkIndexRefused, IsChunkNodeRefused, chunk_level};
+ghost use Rattle.file_model.specs.RefusedChunks.{AreChunksRefused, IsChunkIndexRefused, IsChunkNodeRefused};
+ghost use Rattle.file_model.specs.RefusedChunks.{chunk_level};
 ghost use Rattle.storage_reader.specs.Forms.{IsForm};
 ghost use Rattle.storage_reader.specs.Nodes.{Taken, under, refused_under};
 
@@ -30,15 +32,21 @@ fn take_node<V: Space>(
 ) -> Result<ChunkNode, TreeStop>
     requires stands { V.Stands (space_of blocks.old) }
     requires listed { (met : List Block) × Keeps V.view blocks.old met }
-    ensures found { IsTrue V.tells → IfOk result (λ n. SpellsChunkNode form.now.k form.now.rank n (bytes_of (V.view (space_of blocks.old)).array at (chunk_node_len form.now.k form.now.rank))) }
+    ensures found { IsTrue V.tells → IfOk result
+        (λ n. SpellsChunkNode form.now.k form.now.rank n
+        (bytes_of (V.view (space_of blocks.old)).array at (chunk_node_len form.now.k form.now.rank))) }
     ensures fits { IfOk result (λ n. FitsChunkNode form.now.k form.now.rank n) }
-    ensures kept { OnOk result ((met : List Block) → Keeps V.view blocks.old met → Keeps V.view blocks.new (met ++ record { start = at; len = chunk_node_len form.now.k form.now.rank } ∷ [])) }
-    ensures refused { IsTrue V.tells → IfErr result (λ stop. (met : List Block) (own : Option (List ℕ)) (level : ℕ) → Keeps V.view blocks.old met
-        → IfSome (refusal_of stop) (IsChunkIndexRefused (V.view (space_of blocks.old)).array (bounds_of (V.view (space_of blocks.old)) own) form.now.k form.now.rank form.now.sizes level met at)) }
+    ensures kept { OnOk result ((met : List Block) → Keeps V.view blocks.old met
+        → Keeps V.view blocks.new (met ++ record { start = at; len = chunk_node_len form.now.k form.now.rank } ∷ [])) }
+    ensures refused { IsTrue V.tells → IfErr result (λ stop. (met : List Block) (own : Option (List ℕ)) (level : ℕ)
+        → Keeps V.view blocks.old met
+        → IfSome (refusal_of stop) (IsChunkIndexRefused (V.view (space_of blocks.old)).array
+        (bounds_of (V.view (space_of blocks.old)) own) form.now.k form.now.rank form.now.sizes level met at)) }
     ensures alike { V.Alike (space_of blocks.old) (space_of blocks.new) }
     ensures stands { (IsErrOf result TreeStop.Failed → ⊥) → V.Stands (space_of blocks.new) }
     ensures later { V.faults (space_of blocks.old) ≤ V.faults (space_of blocks.new) }
-    ensures cause { IsErrOf result TreeStop.Failed → Rose (V.faults (space_of blocks.old)) (V.faults (space_of blocks.new)) }
+    ensures cause { IsErrOf result TreeStop.Failed
+        → Rose (V.faults (space_of blocks.old)) (V.faults (space_of blocks.new)) }
 {
     let bytes = take(
         alloc,
@@ -69,15 +77,21 @@ fn adopt_children<V: Space>(
     requires form { IsForm form.now }
     requires node { FitsChunkNode form.now.k form.now.rank node.now }
     ensures found { IsTrue V.tells → IfOk result (λ ends. (met : List Block) → Keeps V.view blocks.old met
-        → Taken (AreChildren (under (V.view (space_of blocks.old)).array form.now.k form.now.rank form.now.sizes node.now.level) true node.now.keys node.now.children) ends (Keeps V.view blocks.new) met) }
-    ensures refused { IsTrue V.tells → IfErr result (λ stop. (met : List Block) (own : Option (List ℕ)) → Keeps V.view blocks.old met
-        → IfSome (refusal_of stop) (AreChunksRefused at (under (V.view (space_of blocks.old)).array form.now.k form.now.rank form.now.sizes node.now.level)
-        (refused_under (V.view (space_of blocks.old)).array (bounds_of (V.view (space_of blocks.old)) own) form.now.k form.now.rank form.now.sizes node.now.level at) true node.now.keys node.now.children [] met)) }
+        → Taken (AreChildren (under (V.view (space_of blocks.old)).array form.now.k form.now.rank form.now.sizes
+        node.now.level) true node.now.keys node.now.children) ends (Keeps V.view blocks.new) met) }
+    ensures refused { IsTrue V.tells → IfErr result (λ stop. (met : List Block) (own : Option (List ℕ))
+        → Keeps V.view blocks.old met
+        → IfSome (refusal_of stop) (AreChunksRefused at
+        (under (V.view (space_of blocks.old)).array form.now.k form.now.rank form.now.sizes node.now.level)
+        (refused_under (V.view (space_of blocks.old)).array
+        (bounds_of (V.view (space_of blocks.old)) own) form.now.k form.now.rank form.now.sizes node.now.level at) true
+        node.now.keys node.now.children [] met)) }
     ensures alike { V.Alike (space_of blocks.old) (space_of blocks.new) }
     ensures stands { (IsErrOf result TreeStop.Failed → ⊥) → V.Stands (space_of blocks.new) }
     ensures listed { OnOk result ((met : List Block) × Keeps V.view blocks.new met) }
     ensures later { V.faults (space_of blocks.old) ≤ V.faults (space_of blocks.new) }
-    ensures cause { IsErrOf result TreeStop.Failed → Rose (V.faults (space_of blocks.old)) (V.faults (space_of blocks.new)) }
+    ensures cause { IsErrOf result TreeStop.Failed
+        → Rose (V.faults (space_of blocks.old)) (V.faults (space_of blocks.new)) }
 {
     if node.level > 0 {
         return adopt_nodes(alloc, blocks, at, node, node.level - 1, form);
@@ -101,15 +115,21 @@ fn adopt_nodes<V: Space>(
     requires form { IsForm form.now }
     requires node { FitsChunkNode form.now.k form.now.rank node.now }
     ensures found { IsTrue V.tells → IfOk result (λ ends. (met : List Block) → Keeps V.view blocks.old met
-        → Taken (AreChildren (under (V.view (space_of blocks.old)).array form.now.k form.now.rank form.now.sizes (suc level)) true node.now.keys node.now.children) ends (Keeps V.view blocks.new) met) }
-    ensures refused { IsTrue V.tells → IfErr result (λ stop. (met : List Block) (own : Option (List ℕ)) → Keeps V.view blocks.old met
-        → IfSome (refusal_of stop) (AreChunksRefused at (under (V.view (space_of blocks.old)).array form.now.k form.now.rank form.now.sizes (suc level))
-        (refused_under (V.view (space_of blocks.old)).array (bounds_of (V.view (space_of blocks.old)) own) form.now.k form.now.rank form.now.sizes (suc level) at) true node.now.keys node.now.children [] met)) }
+        → Taken (AreChildren (under (V.view (space_of blocks.old)).array form.now.k form.now.rank form.now.sizes
+        (suc level)) true node.now.keys node.now.children) ends (Keeps V.view blocks.new) met) }
+    ensures refused { IsTrue V.tells → IfErr result (λ stop. (met : List Block) (own : Option (List ℕ))
+        → Keeps V.view blocks.old met
+        → IfSome (refusal_of stop) (AreChunksRefused at
+        (under (V.view (space_of blocks.old)).array form.now.k form.now.rank form.now.sizes (suc level))
+        (refused_under (V.view (space_of blocks.old)).array
+        (bounds_of (V.view (space_of blocks.old)) own) form.now.k form.now.rank form.now.sizes
+        (suc level) at) true node.now.keys node.now.children [] met)) }
     ensures alike { V.Alike (space_of blocks.old) (space_of blocks.new) }
     ensures stands { (IsErrOf result TreeStop.Failed → ⊥) → V.Stands (space_of blocks.new) }
     ensures listed { OnOk result ((met : List Block) × Keeps V.view blocks.new met) }
     ensures later { V.faults (space_of blocks.old) ≤ V.faults (space_of blocks.new) }
-    ensures cause { IsErrOf result TreeStop.Failed → Rose (V.faults (space_of blocks.old)) (V.faults (space_of blocks.new)) }
+    ensures cause { IsErrOf result TreeStop.Failed
+        → Rose (V.faults (space_of blocks.old)) (V.faults (space_of blocks.new)) }
 {
     let keys = node.keys.as_slice();
     let children = node.children.as_slice();
@@ -139,14 +159,18 @@ fn adopt_node<V: Space>(
     requires listed { (met : List Block) × Keeps V.view blocks.old met }
     requires form { IsForm form.now }
     ensures found { IsTrue V.tells → IfOk result (λ ends. (met : List Block) → Keeps V.view blocks.old met
-        → Taken (IsIndex (V.view (space_of blocks.old)).array form.now.k form.now.rank form.now.sizes level at) ends (Keeps V.view blocks.new) met) }
-    ensures refused { IsTrue V.tells → IfErr result (λ stop. (met : List Block) (own : Option (List ℕ)) → Keeps V.view blocks.old met
-        → IfSome (refusal_of stop) (IsChunkIndexRefused (V.view (space_of blocks.old)).array (bounds_of (V.view (space_of blocks.old)) own) form.now.k form.now.rank form.now.sizes level met at)) }
+        → Taken (IsIndex (V.view (space_of blocks.old)).array form.now.k form.now.rank form.now.sizes level at) ends
+        (Keeps V.view blocks.new) met) }
+    ensures refused { IsTrue V.tells → IfErr result (λ stop. (met : List Block) (own : Option (List ℕ))
+        → Keeps V.view blocks.old met
+        → IfSome (refusal_of stop) (IsChunkIndexRefused (V.view (space_of blocks.old)).array
+        (bounds_of (V.view (space_of blocks.old)) own) form.now.k form.now.rank form.now.sizes level met at)) }
     ensures alike { V.Alike (space_of blocks.old) (space_of blocks.new) }
     ensures stands { (IsErrOf result TreeStop.Failed → ⊥) → V.Stands (space_of blocks.new) }
     ensures listed { OnOk result ((met : List Block) × Keeps V.view blocks.new met) }
     ensures later { V.faults (space_of blocks.old) ≤ V.faults (space_of blocks.new) }
-    ensures cause { IsErrOf result TreeStop.Failed → Rose (V.faults (space_of blocks.old)) (V.faults (space_of blocks.new)) }
+    ensures cause { IsErrOf result TreeStop.Failed
+        → Rose (V.faults (space_of blocks.old)) (V.faults (space_of blocks.new)) }
 {
     let node = take_node(alloc, blocks, at, form)?;
     if node.level != level {
@@ -165,16 +189,21 @@ pub(crate) fn adopt_index<V: Space>(
     requires stands { V.Stands (space_of blocks.old) }
     requires listed { (met : List Block) × Keeps V.view blocks.old met }
     requires form { IsForm form.now }
-    ensures found { IsTrue V.tells → OnOk result ((met : List Block) → Keeps V.view blocks.old met → (cs : List Chunk) × (bs : List Block)
-        × IsIndexed true (V.view (space_of blocks.old)).array form.now.k form.now.rank form.now.sizes at cs bs × Keeps V.view blocks.new (met ++ bs)) }
-    ensures refused { IsTrue V.tells → IfErr result (λ stop. (met : List Block) (own : Option (List ℕ)) → Keeps V.view blocks.old met
-        → IfSome (refusal_of stop) (IsChunkIndexRefused (V.view (space_of blocks.old)).array (bounds_of (V.view (space_of blocks.old)) own) form.now.k form.now.rank form.now.sizes
+    ensures found { IsTrue V.tells → OnOk result ((met : List Block) → Keeps V.view blocks.old met → (cs : List Chunk)
+        × (bs : List Block)
+        × IsIndexed true (V.view (space_of blocks.old)).array form.now.k form.now.rank form.now.sizes at cs bs
+        × Keeps V.view blocks.new (met ++ bs)) }
+    ensures refused { IsTrue V.tells → IfErr result (λ stop. (met : List Block) (own : Option (List ℕ))
+        → Keeps V.view blocks.old met
+        → IfSome (refusal_of stop) (IsChunkIndexRefused (V.view (space_of blocks.old)).array
+        (bounds_of (V.view (space_of blocks.old)) own) form.now.k form.now.rank form.now.sizes
         (chunk_level (V.view (space_of blocks.old)).array form.now.k form.now.rank at) met at)) }
     ensures alike { V.Alike (space_of blocks.old) (space_of blocks.new) }
     ensures stands { (IsErrOf result TreeStop.Failed → ⊥) → V.Stands (space_of blocks.new) }
     ensures listed { OnOk result ((met : List Block) × Keeps V.view blocks.new met) }
     ensures later { V.faults (space_of blocks.old) ≤ V.faults (space_of blocks.new) }
-    ensures cause { IsErrOf result TreeStop.Failed → Rose (V.faults (space_of blocks.old)) (V.faults (space_of blocks.new)) }
+    ensures cause { IsErrOf result TreeStop.Failed
+        → Rose (V.faults (space_of blocks.old)) (V.faults (space_of blocks.new)) }
 {
     let node = take_node(alloc, blocks, at, form)?;
     adopt_children(alloc, blocks, at, &node, form)?;

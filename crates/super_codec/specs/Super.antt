@@ -1,6 +1,7 @@
 -- Which bytes spell which superblock, versions 0 and 1, and why others don't: HDF5 File Format Specification 3.0, II.A.
 -- Cited by `read_super` and `write_super`, and by whatever says which superblock a file has.
-use Rattle.std.specs.Prelude.{◌≡◌, ℕ, ◌+◌, ◌^◌, ◌≤◌, ◌<◌, ◌==◌, nat_le, Bool, ◌&&◌, ◌||◌, not, List, [], ◌∷◌, ◌++◌, length, take, drop, slice_index, if◌then◌else◌, replicate}
+use Rattle.std.specs.Prelude.{◌≡◌, ℕ, ◌+◌, ◌^◌, ◌≤◌, ◌<◌, ◌==◌, nat_le, Bool, ◌&&◌, ◌||◌, not, List, [], ◌∷◌, ◌++◌}
+use Rattle.std.specs.Prelude.{length, take, drop, slice_index, if◌then◌else◌, replicate}
 use Rattle.std.specs.declared.option.Option.{Option}
 use Rattle.std.specs.declared.option.Option.TheVariants.{Some, None}
 use Rattle.std.specs.Int.{w16, w32, w64, to_le_bytes}
@@ -138,16 +139,19 @@ pub record HasRest (b : List ℕ) : Type 0 where
 -- the root group's entry, its link name offset and its reserved bytes 0
 abbrev pub root_bytes : RootEntry → List ℕ
 root_bytes r =
-    replicate 8 0 ++ to_le_bytes w64 r.header_at ++ to_le_bytes w32 r.cache ++ replicate 4 0 ++ to_le_bytes w64 r.tree_at ++ to_le_bytes w64 r.heap_at
+    replicate 8 0 ++ to_le_bytes w64 r.header_at ++ to_le_bytes w32 r.cache ++ replicate 4 0 ++ to_le_bytes w64
+    r.tree_at ++ to_le_bytes w64 r.heap_at
 
 -- from the base address on, which is 0
 abbrev pub rest_bytes : Superblock → List ℕ
 rest_bytes s =
-    replicate 8 0 ++ to_le_bytes w64 s.free_at ++ to_le_bytes w64 s.end_at ++ to_le_bytes w64 s.driver_at ++ root_bytes s.root
+    replicate 8 0 ++ to_le_bytes w64 s.free_at ++ to_le_bytes w64 s.end_at ++ to_le_bytes w64 s.driver_at ++ root_bytes
+    s.root
 
 abbrev pub head_bytes : Superblock → List ℕ
 head_bytes s =
-    signature ++ (s.version ∷ 0 ∷ 0 ∷ 0 ∷ 0 ∷ 8 ∷ 8 ∷ 0 ∷ []) ++ to_le_bytes w16 s.leaf_k ++ to_le_bytes w16 s.internal_k ++ to_le_bytes w32 s.flags
+    signature ++ (s.version ∷ 0 ∷ 0 ∷ 0 ∷ 0 ∷ 8 ∷ 8 ∷ 0 ∷ []) ++ to_le_bytes w16 s.leaf_k ++ to_le_bytes w16
+    s.internal_k ++ to_le_bytes w32 s.flags
 
 abbrev pub chunk_k_bytes : Superblock → List ℕ
 chunk_k_bytes s = if s.version == 1 then (to_le_bytes w16 s.chunk_k ++ replicate 2 0) else []

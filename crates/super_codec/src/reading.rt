@@ -1,6 +1,8 @@
 ghost use Rattle.std.specs.Prelude.{◌≡◌, ◌+◌, ◌≤◌, ◌↔◌, length, slice_index, IsTrue, IfOk, IfErr, Ok};
 ghost use Rattle.super_codec.specs.declared.superblock.Superblock.{Superblock};
-ghost use Rattle.super_codec.specs.Super.{IsSuper, HasRest, Spells, Fits, base_at, super_len, fields, is_k, is_signed, has_wrong_version, has_wrong_sizes, has_wrong_base, has_wrong_k_at, has_wrong_k, unsupported_of, stop_of};
+ghost use Rattle.super_codec.specs.Super.{IsSuper, HasRest, Spells, Fits, base_at, super_len, fields, is_k, is_signed};
+ghost use Rattle.super_codec.specs.Super.{has_wrong_version, has_wrong_sizes, has_wrong_base, has_wrong_k_at};
+ghost use Rattle.super_codec.specs.Super.{has_wrong_k, unsupported_of, stop_of};
 
 use crate::superblock::{RootEntry, SuperStop, Superblock};
 use h5_base::{What, u16_of, u32_of, u64_of};

@@ -1,5 +1,6 @@
 ghost use Rattle.std.specs.Prelude.{◌≡◌, ◌≤◌, length};
-ghost use Rattle.super_codec.specs.Super.{Fits, InRange, Spells, super_len, super_bytes, head_bytes, chunk_k_bytes, rest_bytes, root_bytes};
+ghost use Rattle.super_codec.specs.Super.{Fits, InRange, Spells, super_len, super_bytes, head_bytes, chunk_k_bytes};
+ghost use Rattle.super_codec.specs.Super.{rest_bytes, root_bytes};
 
 use crate::reading::SIGNATURE;
 use crate::superblock::{RootEntry, Superblock};

@@ -35,8 +35,8 @@ abbrev pub reply_to : Outcome → Answer
 reply_to (Ok done) = answer_of done.1
 reply_to (Err code) = answer.No code
 
--- what a line is answered, by the command that it spells: a line that spells none, a command that isn't given yet, or the
--- step's reply
+-- what a line is answered, by the command that it spells: a line that spells none, a command that isn't given yet, or
+-- the step's reply
 abbrev pub answer_to : Plain → Option Command → Answer
 answer_to t None = answer.No BadLine
 answer_to t (Some c) = if is_given c then reply_to (step plain_stack t c) else answer.No NotBuilt

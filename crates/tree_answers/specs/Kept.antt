@@ -26,7 +26,8 @@ use Rattle.tree_answers.specs.Shown.{info_of, ShowsPlain}
 abbrev pub stat_by : Node → ℕ → Answer
 stat_by (node.Group header tree heap) links = answer.Group links
 stat_by (node.Dataset header shape elem fill layout filtered) links =
-    answer.Dataset elem shape.dims (max_of shape) (chunk_of (info_of shape elem fill layout filtered) layout) (fill_bytes (size_of elem) fill) filtered
+    answer.Dataset elem shape.dims (max_of shape) (chunk_of (info_of shape elem fill layout filtered) layout)
+    (fill_bytes (size_of elem) fill) filtered
 stat_by (node.Soft text) links = answer.Soft text
 stat_by (node.Other header) links = answer.Other
 

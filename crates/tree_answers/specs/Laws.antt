@@ -18,8 +18,10 @@ Held = (b : Array) (e : Bounds) (kept : ObjectTree) → IsOpened b e kept → (t
 
 -- each tree that they hold is the one that is kept
 abbrev pub OpenedIs : Type 0
-OpenedIs = (b : Array) (e : Bounds) (kept : ObjectTree) → IsOpened b e kept → (t : Plain) → Holds b e t → IsTreeOf kept t
+OpenedIs = (b : Array) (e : Bounds) (kept : ObjectTree) → IsOpened b e kept → (t : Plain) → Holds b e t
+    → IsTreeOf kept t
 
 -- a given command leaves the tree as it is, and makes no revision
 abbrev pub OnlyLooks : Type 0
-OnlyLooks = (t new : Plain) (c : Command) (r : Reply) → IsTrue (is_given c) → step plain_stack t c ≡ Ok (new, r) → (new ≡ t) × ((a : Answer) × (r ≡ Gives a))
+OnlyLooks = (t new : Plain) (c : Command) (r : Reply) → IsTrue (is_given c) → step plain_stack t c ≡ Ok (new, r)
+    → (new ≡ t) × ((a : Answer) × (r ≡ Gives a))

@@ -1,5 +1,5 @@
--- When the tree that the program keeps is a tree of objects: names and objects agree, and of datasets all but the elements.
--- Cited by `answer`, and by the theorem of a script's run.
+-- When the tree that the program keeps is a tree of objects: names and objects agree, and of datasets all but the
+-- elements. Cited by `answer`, and by the theorem of a script's run.
 use Rattle.std.specs.Prelude.{◌≡◌, Bool}
 use Rattle.dtype.specs.Types.{size_of}
 use Rattle.dtype.specs.declared.types.ElemType.{ElemType}
@@ -18,7 +18,14 @@ use Rattle.tree_nodes.specs.Shown.{Keyed, KeyedLinks, Shows}
 
 -- what a dataset's node tells
 abbrev pub info_of : Shape → ElemType → Fill → Layout → Bool → DataInfo
-info_of shape elem fill layout filtered = record { shape = shape; elem = elem; fill = fill_bytes (size_of elem) fill; layout = layout; filtered = filtered }
+info_of shape elem fill layout filtered = record {
+  shape = shape;
+  elem = elem;
+  fill = fill_bytes
+      (size_of elem) fill;
+  layout = layout;
+  filtered = filtered;
+}
 
 -- This is told of the dataset; its elements are free, since no given command shows one.
 pub record ShowsData (i : DataInfo) (d : Data) : Type 0 where
@@ -31,7 +38,8 @@ pub record ShowsData (i : DataInfo) (d : Data) : Type 0 where
 
 -- the node is this object's
 abbrev pub ShowsObject : Node → Object → Type 0
-ShowsObject (node.Dataset header shape elem fill layout filtered) (Dataset d) = ShowsData (info_of shape elem fill layout filtered) d
+ShowsObject (node.Dataset header shape elem fill layout filtered) (Dataset d) = ShowsData
+    (info_of shape elem fill layout filtered) d
 ShowsObject (node.Soft text) (Soft target) = text ≡ target
 ShowsObject (node.Other header) Other = Unit {0}
 ShowsObject _ _ = ⊥

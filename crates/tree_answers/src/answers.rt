@@ -32,7 +32,8 @@ fn line_at(alloc: Global, tree: &ObjectTree, id: NodeId, k: u64) -> Result<LinkL
     requires sound { IsSoundTree tree.now }
     requires has { Has tree.now id }
     requires inside { (e : Kept) → entry_of tree.now id.key ≡ Some e → k < length e.links }
-    ensures { (e : Kept) → entry_of tree.now id.key ≡ Some e → IfOk result (λ line. slice_get (map (line_by tree.now) e.links) k ≡ Some line) }
+    ensures { (e : Kept) → entry_of tree.now id.key ≡ Some e
+        → IfOk result (λ line. slice_get (map (line_by tree.now) e.links) k ≡ Some line) }
 {
     match tree.child_at(id, k) {
         Some(link) => line_of(alloc, tree, link),
@@ -44,7 +45,8 @@ fn line_at(alloc: Global, tree: &ObjectTree, id: NodeId, k: u64) -> Result<LinkL
 fn lines_of(alloc: Global, tree: &ObjectTree, id: NodeId) -> Result<List<LinkLine>, NoMemory>
     requires sound { IsSoundTree tree.now }
     requires has { Has tree.now id }
-    ensures { (e : Kept) → entry_of tree.now id.key ≡ Some e → IfOk result (λ lines. lines ≡ map (line_by tree.now) e.links) }
+    ensures { (e : Kept) → entry_of tree.now id.key ≡ Some e
+        → IfOk result (λ lines. lines ≡ map (line_by tree.now) e.links) }
 {
     let mut lines = Vec::new(alloc);
     for k in 0..tree.links(id) {
@@ -59,7 +61,8 @@ fn lines_of(alloc: Global, tree: &ObjectTree, id: NodeId) -> Result<List<LinkLin
 /// What `ls` of a path is answered.
 fn ls(alloc: Global, tree: &ObjectTree, path: &[LinkName]) -> Result<Answer, NoMemory>
     requires { IsSoundTree tree.now }
-    ensures answered { IfOk result (λ a. (t : Plain) → IsTreeOf tree.now t → a ≡ answer_to t (Some (command.Ls path.now))) }
+    ensures answered { IfOk result (λ a. (t : Plain) → IsTreeOf tree.now t
+        → a ≡ answer_to t (Some (command.Ls path.now))) }
     ensures text { IfOk result HasText }
 {
     match find_group(tree, path) {
@@ -73,7 +76,8 @@ fn ls(alloc: Global, tree: &ObjectTree, path: &[LinkName]) -> Result<Answer, NoM
 /// What `stat` of a path is answered.
 fn stat(alloc: Global, tree: &ObjectTree, path: &[LinkName]) -> Result<Answer, NoMemory>
     requires { IsSoundTree tree.now }
-    ensures answered { IfOk result (λ a. (t : Plain) → IsTreeOf tree.now t → a ≡ answer_to t (Some (command.Stat path.now))) }
+    ensures answered { IfOk result (λ a. (t : Plain) → IsTreeOf tree.now t
+        → a ≡ answer_to t (Some (command.Stat path.now))) }
     ensures text { IfOk result HasText }
 {
     match find(tree, path) {
@@ -82,8 +86,8 @@ fn stat(alloc: Global, tree: &ObjectTree, path: &[LinkName]) -> Result<Answer, N
     }
 }
 
-/// What a command is answered from the tree of an opened file: the reply of its step, or `NotBuilt` where it isn't given
-/// yet. It takes memory for the answer alone, and fails only for want of it.
+/// What a command is answered from the tree of an opened file: the reply of its step, or `NotBuilt` where it isn't
+/// given yet. It takes memory for the answer alone, and fails only for want of it.
 pub fn answer(alloc: Global, tree: &ObjectTree, command: &Command) -> Result<Answer, NoMemory>
     // Each node can be shown, as it is of each tree that `open_tree` answers, whatever the space tells.
     requires { IsSoundTree tree.now }

@@ -16,7 +16,8 @@ fn child(tree: &ObjectTree, id: NodeId, name: &LinkName) -> Result<NodeId, Code>
     requires has { Has tree.now id }
     ensures has { IfOk result (Has tree.now) }
     ensures found { (t : Plain) → IsAt tree.now id t
-        → MatchResult result (λ next. (u : Plain) × (child t name.now ≡ Ok u) × IsAt tree.now next u) (λ code. child t name.now ≡ Err code) }
+        → MatchResult result (λ next. (u : Plain) × (child t name.now ≡ Ok u)
+        × IsAt tree.now next u) (λ code. child t name.now ≡ Err code) }
 {
     match tree.node(id) {
         Node::Group { .. } => tree.child(id, name).ok_or(Code::Absent),
@@ -29,7 +30,8 @@ pub(crate) fn find(tree: &ObjectTree, path: &[LinkName]) -> Result<NodeId, Code>
     requires { IsSoundTree tree.now }
     ensures has { IfOk result (Has tree.now) }
     ensures found { (t : Plain) → IsTreeOf tree.now t
-        → MatchResult result (λ id. (u : Plain) × (walk t path.now ≡ Ok u) × IsAt tree.now id u) (λ code. walk t path.now ≡ Err code) }
+        → MatchResult result (λ id. (u : Plain) × (walk t path.now ≡ Ok u)
+        × IsAt tree.now id u) (λ code. walk t path.now ≡ Err code) }
 {
     let mut id = tree.root();
     for name in path {
@@ -43,7 +45,8 @@ pub(crate) fn find_group(tree: &ObjectTree, path: &[LinkName]) -> Result<NodeId,
     requires { IsSoundTree tree.now }
     ensures has { IfOk result (Has tree.now) }
     ensures found { (t : Plain) → IsTreeOf tree.now t
-        → MatchResult result (λ id. (ls : PlainLinks) × (links_behind t path.now ≡ Ok ls) × IsAt tree.now id (Group tt ls))
+        → MatchResult result (λ id. (ls : PlainLinks) × (links_behind t path.now ≡ Ok ls)
+        × IsAt tree.now id (Group tt ls))
         (λ code. links_behind t path.now ≡ Err code) }
 {
     let id = find(tree, path)?;

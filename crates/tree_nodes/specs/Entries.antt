@@ -6,7 +6,8 @@ use Rattle.object_model.specs.Tree.{Name, AreOrdered}
 use Rattle.tree_nodes.specs.declared.node.Node.{Node}
 use Rattle.tree_nodes.specs.declared.node.NodeId.{NodeId}
 use Rattle.tree_nodes.specs.declared.tree.ObjectTree.{ObjectTree}
-use Rattle.tree_nodes.specs.Nodes.{Kept, bare, is_group, is_dataset, objects_at, child_link, link_names, find_link, insert_link, remove_link}
+use Rattle.tree_nodes.specs.Nodes.{Kept, bare, is_group, is_dataset, objects_at, child_link, link_names, find_link}
+use Rattle.tree_nodes.specs.Nodes.{insert_link, remove_link}
 use Rattle.tree_nodes.specs.Slots.{kept_in, IsRoomyAt}
 
 abbrev pub superblock_of : ObjectTree → Superblock
@@ -33,7 +34,8 @@ HasDataset kept id = (e : Kept) × (entry_of kept id.key ≡ Some e) × (is_data
 
 -- a group is kept there that has no link of this name
 abbrev pub LacksLink : ObjectTree → NodeId → Name → Type 0
-LacksLink kept id name = (e : Kept) × (entry_of kept id.key ≡ Some e) × (is_group e.node ≡ true) × (find_link e.links name ≡ None)
+LacksLink kept id name = (e : Kept) × (entry_of kept id.key ≡ Some e) × (is_group e.node ≡ true)
+    × (find_link e.links name ≡ None)
 
 -- what is kept there has a link of this name, which leads to a node without links
 pub record HasLooseLink (kept : ObjectTree) (id : NodeId) (name : Name) : Type 0 where
@@ -73,7 +75,8 @@ pub record Removes (old new : ObjectTree) (group : ℕ) (name : Name) (key : ℕ
   pub superblock : superblock_of new ≡ superblock_of old
   pub root : root_of new ≡ root_of old
   pub gone : entry_of new key ≡ None
-  pub linked : (e : Kept) → entry_of old group ≡ Some e → entry_of new group ≡ Some (record { node = e.node; links = remove_link e.links name })
+  pub linked : (e : Kept) → entry_of old group ≡ Some e
+      → entry_of new group ≡ Some (record { node = e.node; links = remove_link e.links name })
   pub others : (k : ℕ) → k ≢ group → k ≢ key → entry_of new k ≡ entry_of old k
   pub objects : (e : Kept) → entry_of old key ≡ Some e → object_count new + objects_at e.node ≡ object_count old
 
@@ -81,6 +84,7 @@ pub record Removes (old new : ObjectTree) (group : ℕ) (name : Name) (key : ℕ
 pub record Sets (old new : ObjectTree) (key : ℕ) (f : Node → Node) : Type 0 where
   pub superblock : superblock_of new ≡ superblock_of old
   pub root : root_of new ≡ root_of old
-  pub changed : (e : Kept) → entry_of old key ≡ Some e → entry_of new key ≡ Some (record { node = f e.node; links = e.links })
+  pub changed : (e : Kept) → entry_of old key ≡ Some e
+      → entry_of new key ≡ Some (record { node = f e.node; links = e.links })
   pub others : (k : ℕ) → k ≢ key → entry_of new k ≡ entry_of old k
   pub objects : object_count new ≡ object_count old

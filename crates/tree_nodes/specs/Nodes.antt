@@ -1,6 +1,7 @@
 -- What a node is, what is kept of it, and lists of links in name order.
 -- Cited by the contracts of the object tree, and by the definitions of its entries and its tree.
-use Rattle.std.specs.Prelude.{◌≡◌, ℕ, Bool, true, false, List, [], ◌∷◌, map, Option, Some, None, if◌then◌else◌, slice_index_or, remove}
+use Rattle.std.specs.Prelude.{◌≡◌, ℕ, Bool, true, false, List, [], ◌∷◌, map, Option, Some, None, if◌then◌else◌}
+use Rattle.std.specs.Prelude.{slice_index_or, remove}
 use Rattle.std.specs.List.{prefix_len}
 use Rattle.header_codec.specs.declared.types.Layout.{Layout}
 use Rattle.object_model.specs.Tree.{Name, name_lt, same_name}
@@ -42,7 +43,8 @@ with_layout new (node.Other header) = node.Other header
 -- a dataset with other sizes, and its maximum sizes as before
 abbrev pub with_dims : List ℕ → Node → Node
 with_dims dims (node.Group header tree heap) = node.Group header tree heap
-with_dims dims (node.Dataset header shape elem fill layout filtered) = node.Dataset header (record shape { dims = dims }) elem fill layout filtered
+with_dims dims (node.Dataset header shape elem fill layout filtered) = node.Dataset header
+    (record shape { dims = dims }) elem fill layout filtered
 with_dims dims (node.Soft text) = node.Soft text
 with_dims dims (node.Other header) = node.Other header
 
@@ -85,4 +87,5 @@ place_in links name = prefix_len (λ l. name_lt l.name name) links
 -- the link at this place is the one that has the name, or none has it
 abbrev pub IsLinkAt : List ChildLink → Name → Option ℕ → Type 0
 IsLinkAt links name None = (find_link links name ≡ None) × (remove_link links name ≡ links)
-IsLinkAt links name (Some i) = (d : ChildLink) → (find_link links name ≡ Some (slice_index_or links i d).node) × (remove_link links name ≡ remove links i)
+IsLinkAt links name (Some i) = (d : ChildLink) → (find_link links name ≡ Some (slice_index_or links i d).node)
+    × (remove_link links name ≡ remove links i)

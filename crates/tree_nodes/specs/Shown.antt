@@ -31,7 +31,8 @@ node_of (Leaf x) = x.node
 
 -- a node without links
 abbrev pub single : ℕ → Node → Keyed
-single key n = if is_group n then Group (record { key = key; node = n }) Empty else Leaf (record { key = key; node = n })
+single key n = if is_group n then Group (record { key = key; node = n }) Empty else Leaf
+    (record { key = key; node = n })
 
 -- the links, each with the key that it leads to
 abbrev pub child_links : KeyedLinks → List ChildLink
@@ -84,12 +85,14 @@ abbrev mutual
 
   pub AreDistinctBelow : KeyedLinks → Type 0
   AreDistinctBelow Empty = Unit {0}
-  AreDistinctBelow (Link name t rest) = AreDistinct t × AreDistinctBelow rest × ((k : ℕ) → HasKey t k → HasKeyBelow rest k → ⊥)
+  AreDistinctBelow (Link name t rest) = AreDistinct t × AreDistinctBelow rest
+      × ((k : ℕ) → HasKey t k → HasKeyBelow rest k → ⊥)
 
 -- Under each node's key stand the node and its links, and just the groups have the nodes of groups.
 abbrev mutual
   pub AreKept : (ℕ → Option Kept) → Keyed → Type 0
-  AreKept at (Group x ls) = (is_group x.node ≡ true) × (at x.key ≡ Some (record { node = x.node; links = child_links ls })) × AreKeptBelow at ls
+  AreKept at (Group x ls) = (is_group x.node ≡ true)
+      × (at x.key ≡ Some (record { node = x.node; links = child_links ls })) × AreKeptBelow at ls
   AreKept at (Leaf x) = (is_group x.node ≡ false) × (at x.key ≡ Some (bare x.node))
 
   pub AreKeptBelow : (ℕ → Option Kept) → KeyedLinks → Type 0

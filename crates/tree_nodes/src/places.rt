@@ -1,4 +1,5 @@
-ghost use Rattle.std.specs.Prelude.{◌≡◌, ◌≤◌, ◌<◌, None, IfSome, length, slice_get, option_copied, vec_len, vec_capacity};
+ghost use Rattle.std.specs.Prelude.{◌≡◌, ◌≤◌, ◌<◌, None, IfSome, length, slice_get, option_copied, vec_len};
+ghost use Rattle.std.specs.Prelude.{vec_capacity};
 ghost use Rattle.object_model.specs.Tree.{AreOrdered, name_lt};
 ghost use Rattle.tree_nodes.specs.Nodes.{link_names, find_link, insert_link, remove_link, place_in, IsLinkAt};
 

@@ -1,7 +1,8 @@
 ghost use Rattle.std.specs.Prelude.{◌≡◌, ◌≢◌, ◌+◌, ◌^◌, ◌<◌, Some, None, IsSome, OnOk, ℕ, if◌then◌else◌};
 ghost use Rattle.slab.specs.Slab.{get, HasRoomFor};
 ghost use Rattle.object_model.specs.Tree.{AreOrdered};
-ghost use Rattle.tree_nodes.specs.Nodes.{Kept, bare, is_object, objects_at, link_names, find_link, insert_link, remove_link, with_layout, with_dims};
+ghost use Rattle.tree_nodes.specs.Nodes.{Kept, bare, is_object, objects_at, link_names, find_link, insert_link};
+ghost use Rattle.tree_nodes.specs.Nodes.{remove_link, with_layout, with_dims};
 ghost use Rattle.tree_nodes.specs.Slots.{kept_in, objects_in, IsRoomy, IsRoomyAt};
 
 use crate::entry::Entry;
@@ -55,7 +56,8 @@ pub(crate) fn add_node(alloc: Global, nodes: &mut Slab<Entry>, node: Node) -> us
 /// One link more under the key.
 pub(crate) fn link(nodes: &mut Slab<Entry>, key: usize, link: ChildLink)
     requires { IsRoomy (get nodes.old key) }
-    ensures linked { (e : Kept) → kept_in nodes.old key ≡ Some e → AreOrdered (link_names e.links) → find_link e.links link.name ≡ None
+    ensures linked { (e : Kept) → kept_in nodes.old key ≡ Some e → AreOrdered (link_names e.links)
+        → find_link e.links link.name ≡ None
         → kept_in nodes.new key ≡ Some (record { node = e.node; links = insert_link e.links link }) }
     ensures others { (k : ℕ) → k ≢ key → kept_in nodes.new k ≡ kept_in nodes.old k }
     ensures objects { objects_in nodes.new.slots ≡ objects_in nodes.old.slots }
@@ -67,7 +69,8 @@ pub(crate) fn link(nodes: &mut Slab<Entry>, key: usize, link: ChildLink)
 
 /// One link fewer under the key, and the node that it led to.
 pub(crate) fn unlink(nodes: &mut Slab<Entry>, key: usize, name: &LinkName) -> Option<NodeId>
-    ensures found { (e : Kept) → kept_in nodes.old key ≡ Some e → AreOrdered (link_names e.links) → result ≡ find_link e.links name.now }
+    ensures found { (e : Kept) → kept_in nodes.old key ≡ Some e → AreOrdered (link_names e.links)
+        → result ≡ find_link e.links name.now }
     ensures unlinked { (e : Kept) → kept_in nodes.old key ≡ Some e → AreOrdered (link_names e.links)
         → kept_in nodes.new key ≡ Some (record { node = e.node; links = remove_link e.links name.now }) }
     ensures others { (k : ℕ) → k ≢ key → kept_in nodes.new k ≡ kept_in nodes.old k }

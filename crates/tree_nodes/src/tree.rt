@@ -23,11 +23,14 @@ pub struct ObjectTree {
 }
 
 impl ObjectTree {
-    ghost use Rattle.std.specs.Prelude.{◌≢◌, ◌+◌, ◌<◌, List, ℕ, Some, None, Ok, true, false, length, slice_get, option_copied, IfOk, OnOk};
+    ghost use Rattle.std.specs.Prelude.{◌≢◌, ◌+◌, ◌<◌, List, ℕ, Some, None, Ok, true, false, length, slice_get};
+    ghost use Rattle.std.specs.Prelude.{option_copied, IfOk, OnOk};
     ghost use Rattle.object_model.specs.Tree.{Name, AreOrdered, walk, edit, relink, insert, remove};
     ghost use Rattle.tree_nodes.specs.Nodes.{Kept, bare, is_group, link_names, find_link, with_layout, with_dims};
-    ghost use Rattle.tree_nodes.specs.Entries.{superblock_of, root_of, object_count, entry_of, Has, HasDataset, LacksLink, HasLooseLink, HasRoom, Same, Inserts, Removes, Sets};
-    ghost use Rattle.tree_nodes.specs.Shown.{Keyed, Shows, key_of, node_of, links_of, child_id, objects_of, single, on_leaf};
+    ghost use Rattle.tree_nodes.specs.Entries.{superblock_of, root_of, object_count, entry_of, Has, HasDataset};
+    ghost use Rattle.tree_nodes.specs.Entries.{LacksLink, HasLooseLink, HasRoom, Same, Inserts, Removes, Sets};
+    ghost use Rattle.tree_nodes.specs.Shown.{Keyed, Shows, key_of, node_of, links_of, child_id, objects_of, single};
+    ghost use Rattle.tree_nodes.specs.Shown.{on_leaf};
 
     /// The tree of one group without links.
     pub fn empty(alloc: Global, superblock: Superblock, root: Node) -> Result<ObjectTree, NoMemory>
@@ -107,7 +110,8 @@ impl ObjectTree {
     /// The node behind a name.
     pub fn child(&self, id: NodeId, name: &LinkName) -> Option<NodeId>
         requires { Has self.now id }
-        ensures entry { (e : Kept) → entry_of self.now id.key ≡ Some e → AreOrdered (link_names e.links) → result ≡ find_link e.links name.now }
+        ensures entry { (e : Kept) → entry_of self.now id.key ≡ Some e → AreOrdered (link_names e.links)
+            → result ≡ find_link e.links name.now }
         ensures tree { (t u : Keyed) (p : List Name) → Shows self.now t → walk t p ≡ Ok u → key_of u ≡ id.key
             → result ≡ child_id u name.now }
     {
@@ -158,7 +162,8 @@ impl ObjectTree {
         requires { HasLooseLink self.old id name.now }
         ensures superblock { superblock_of self.new ≡ superblock_of self.old }
         ensures root { root_of self.new ≡ root_of self.old }
-        ensures entry { (e : Kept) (child : NodeId) → entry_of self.old id.key ≡ Some e → AreOrdered (link_names e.links)
+        ensures entry { (e : Kept) (child : NodeId) → entry_of self.old id.key ≡ Some e
+            → AreOrdered (link_names e.links)
             → find_link e.links name.now ≡ Some child → Removes self.old self.new id.key name.now child.key }
         ensures tree { (t u : Keyed) (p : List Name) → Shows self.old t → walk t p ≡ Ok u → key_of u ≡ id.key
             → Shows self.new (edit p (relink (λ ls. remove ls name.now)) t) }
