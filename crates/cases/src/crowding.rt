@@ -15,6 +15,9 @@ const NODES_AT: u64 = 328_400;
 
 const NODE_LEN: u64 = 81_928;
 
+// The heap of the root: its segment has 327,688 bytes from 712 on, and no free block.
+const HEAP: [u8; 26] = *b"HEAP\0\0\0\0\x08\0\x05\0\0\0\0\0\x01\0\0\0\0\0\0\0\xC8\x02";
+
 // Puts the bytes from `at` on. What lies behind the end is left out.
 fn put(file: &mut [u8], at: u64, bytes: &[u8]) {
     for (i, byte) in bytes.iter().enumerate() {
@@ -53,19 +56,11 @@ fn add_root(alloc: Global, end: u64, nodes: u32, file: &mut Vec<u8>) -> Result<(
     add_items(alloc, text.as_str(), &[], file)
 }
 
-// The heap of the root, whose segment has the names.
-fn put_heap(file: &mut [u8]) {
-    put(file, 680, b"HEAP");
-    put_number(file, 688, 327_688);
-    put_number(file, 696, 1);
-    put_number(file, 704, 712);
-}
-
 // Symbol table node with so many links, as a child of the root's B-tree node whose last name is that of link `last`.
 fn put_node(file: &mut [u8], node: u32, links: u32, last: u32) {
     let at = node_at(node);
     put(file, at, b"SNOD\x01");
-    put(file, at + 6, &links.to_le_bytes());
+    put(file, at.wrapping_add(6), &links.to_le_bytes());
     put_number(file, 168 + 16 * u64::from(node), at);
     put_number(file, 176 + 16 * u64::from(node), name_at(last));
 }
@@ -83,10 +78,10 @@ fn put_nodes(file: &mut [u8], objects: u32) {
 // Link i with its name and its object, a header without messages.
 fn put_link(file: &mut [u8], i: u32, object: u64) {
     let name = [letter(i / 4096), letter(i / 256), letter(i / 16), letter(i)];
-    let entry = node_at(i / IN_NODE) + 8 + 40 * u64::from(i % IN_NODE);
+    let entry = node_at(i / IN_NODE).wrapping_add(8 + 40 * u64::from(i % IN_NODE));
     put(file, NAMES_AT + 5 * u64::from(i), &name);
     put_number(file, entry, name_at(i));
-    put_number(file, entry + 8, object);
+    put_number(file, entry.wrapping_add(8), object);
     put(file, object, b"\x01\0\0\0\x01");
 }
 
@@ -98,23 +93,32 @@ fn put_links(file: &mut [u8], objects: u32, first: u64) {
     }
 }
 
+fn put_rest(file: &mut [u8], objects: u32, first: u64) {
+    put(file, 680, &HEAP);
+    put_nodes(file, objects);
+    put_links(file, objects, first);
+}
+
+// A number of links.
+fn links(text: &str) -> Result<u32, Stop> {
+    let n = number(text)?;
+    if n > MOST {
+        return Err(Stop::Wrong("more than 65,536"));
+    }
+    Ok(n as u32)
+}
+
 /// Makes a file whose root has so many links, from `aaaa` on, each to an object of its own: the nodes stand from 328400
 /// on, each 81,928 bytes, and the objects behind them, each 16 bytes. 65,536 are with the root one object more than a
 /// file may have.
 pub fn crowd(alloc: Global, objects: &str, file: &mut Vec<u8>) -> Result<(), Stop> {
-    let objects = number(objects)?;
-    if objects > MOST {
-        return Err(Stop::Wrong("more than 65,536"));
-    }
-    let objects = objects as u32;
+    let objects = links(objects)?;
     let nodes = objects.div_ceil(IN_NODE);
     let first = node_at(nodes);
     let end = first.saturating_add(16 * u64::from(objects));
     file.clear();
     add_root(alloc, end, nodes, file)?;
     file.resize(end as usize, 0)?;
-    put_heap(file.as_mut_slice());
-    put_nodes(file.as_mut_slice(), objects);
-    put_links(file.as_mut_slice(), objects, first);
+    put_rest(file.as_mut_slice(), objects, first);
     Ok(())
 }

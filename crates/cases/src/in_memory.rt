@@ -68,25 +68,37 @@ fn clock_of(alloc: Global, given: &Given) -> Result<ListClock, Stop> {
     Ok(ListClock::new(Vec::from_slice(alloc, given.clock.as_slice())?))
 }
 
+// The standard streams of a run in memory.
+#[derive(Drop)]
+struct Streams {
+    input: VecSource,
+    out: VecSink,
+    err: VecSink,
+}
+
 // All that a run in memory is made over.
 #[derive(Drop)]
 struct Ports {
     store: MemStore,
-    input: VecSource,
-    out: VecSink,
-    err: VecSink,
+    streams: Streams,
     clock: ListClock,
+}
+
+fn streams_of(alloc: Global, given: &mut Given) -> Result<Streams, Stop> {
+    let output_fails = taken(alloc, &mut given.output_fails);
+    let error_fails = taken(alloc, &mut given.error_fails);
+    Ok(Streams {
+        input: source_of(alloc, given)?,
+        out: VecSink::new(alloc, given.room, output_fails)?,
+        err: VecSink::new(alloc, ERROR_ROOM, error_fails)?,
+    })
 }
 
 fn ports_of(alloc: Global, given: &mut Given, files: &[Named]) -> Result<Ports, Stop> {
     let fails = taken(alloc, &mut given.fails);
-    let output_fails = taken(alloc, &mut given.output_fails);
-    let error_fails = taken(alloc, &mut given.error_fails);
     Ok(Ports {
         store: store_of(alloc, files, fails)?,
-        input: source_of(alloc, given)?,
-        out: VecSink::new(alloc, given.room, output_fails)?,
-        err: VecSink::new(alloc, ERROR_ROOM, error_fails)?,
+        streams: streams_of(alloc, given)?,
         clock: clock_of(alloc, given)?,
     })
 }
@@ -95,19 +107,21 @@ fn ports_of(alloc: Global, given: &mut Given, files: &[Named]) -> Result<Ports, 
 fn perform(alloc: Global, words: &Vec<String>, ports: Ports) -> (u8, Ports) {
     let Ports {
         store,
-        mut input,
-        mut out,
-        mut err,
+        mut streams,
         mut clock,
     } = ports;
     let ended = run(
-        alloc, words, store, &mut input, &mut out, &mut err, &mut clock,
+        alloc,
+        words,
+        store,
+        &mut streams.input,
+        &mut streams.out,
+        &mut streams.err,
+        &mut clock,
     );
     let ports = Ports {
         store: ended.store,
-        input,
-        out,
-        err,
+        streams,
         clock,
     };
     (ended.status, ports)
@@ -158,9 +172,9 @@ pub fn run_in_memory(
     let (status, mut ports) = perform(alloc, &given.words, ports);
     Ok(Outcome {
         status,
-        out: copy_of(alloc, &ports.out)?,
-        err: copy_of(alloc, &ports.err)?,
-        unread: count_left(&mut ports.input),
+        out: copy_of(alloc, &ports.streams.out)?,
+        err: copy_of(alloc, &ports.streams.err)?,
+        unread: count_left(&mut ports.streams.input),
         files: files_of(alloc, &ports.store, files)?,
         calls: calls_of(alloc, &ports.store, files, limits)?,
     })

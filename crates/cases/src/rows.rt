@@ -96,13 +96,18 @@ pub fn range(text: &str) -> Result<Option<(u64, u64)>, Stop> {
     Ok(Some((low, high)))
 }
 
+// Adds a column, which may name those before it.
+fn push_column(alloc: Global, text: &str, list: &mut Vec<String>) -> Result<(), Stop> {
+    let text = fill_in(alloc, text.trim_ascii(), list.as_slice())?;
+    Ok(list.push(text)?)
+}
+
 /// The columns of a row, for which ` | ` stands between two, with this one as the first.
 pub fn columns(alloc: Global, row: &str, first: String) -> Result<Vec<String>, Stop> {
     let mut list = Vec::new(alloc);
     list.push(first)?;
     for text in row.split(" | ").skip(1) {
-        let text = fill_in(alloc, text.trim_ascii(), list.as_slice())?;
-        list.push(text)?;
+        push_column(alloc, text, &mut list)?;
     }
     Ok(list)
 }

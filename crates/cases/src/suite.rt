@@ -176,6 +176,17 @@ impl Suite {
         case.give_kept(&mut self.named)
     }
 
+    // Follows a line of a case; one that can't be followed is told.
+    fn follow_line(
+        &mut self,
+        line: Line<'_>,
+        columns: &[String],
+        case: &mut Case,
+    ) -> Result<bool, Stop> {
+        let done = follow(self.alloc, line, columns, self.named.as_slice(), case);
+        self.check(line, done)
+    }
+
     // Follows the lines of a case up to the first that can't be followed, which is told.
     fn follow_lines(
         &mut self,
@@ -184,9 +195,7 @@ impl Suite {
         case: &mut Case,
     ) -> Result<bool, Stop> {
         for line in &block.lines {
-            let named = self.named.as_slice();
-            let done = follow(self.alloc, *line, columns, named, case);
-            if !self.check(*line, done)? {
+            if !self.follow_line(*line, columns, case)? {
                 return Ok(false);
             }
         }
