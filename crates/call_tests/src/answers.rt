@@ -7,10 +7,10 @@ use script::{Answer, Code, print_answer};
 use std::alloc::Global;
 
 // Whether the answer has this line.
-fn prints(alloc: Global, answer: Answer, text: &str) -> bool
-    requires { HasText answer }
+fn prints(alloc: Global, answer: &Answer, text: &str) -> bool
+    requires { HasText answer.now }
 {
-    match print_answer(alloc, &answer) {
+    match print_answer(alloc, answer) {
         Ok(line) => line.as_slice() == text.as_bytes(),
         Err(_) => false,
     }
@@ -23,7 +23,7 @@ fn prints_values(alloc: Global, elem: ElemType, bytes: &[u8], text: &str) -> boo
         return false;
     }
     match Bytes::from_slice(alloc, bytes) {
-        Ok(bytes) => prints(alloc, Answer::Values { elem, bytes }, text),
+        Ok(bytes) => prints(alloc, &Answer::Values { elem, bytes }, text),
         Err(_) => false,
     }
 }
@@ -44,25 +44,28 @@ fn prints_elements(alloc: Global) -> bool {
         && prints_values(alloc, text, b"a b\"  ", "ok \"a b\" \"\\x22\"")
 }
 
+fn prints_full(alloc: Global) -> bool {
+    let full = Answer::Full {
+        end: u64::MAX,
+        need: 7,
+    };
+    prints(alloc, &full, "no full 18446744073709551615 7")
+}
+
+fn prints_revision(alloc: Global) -> bool {
+    let done = Answer::Committed { rev: 12, pages: 0 };
+    prints(alloc, &done, "ok rev 12 pages 0")
+}
+
+fn prints_code(alloc: Global, code: Code, line: &str) -> bool {
+    let refused = Answer::No { code };
+    prints(alloc, &refused, line)
+}
+
 #[test]
 fn answers_are_printed(rt: HostRuntime) {
     let alloc = rt.alloc();
-    let all = prints_elements(alloc)
-        && prints(alloc, Answer::Done, "ok")
-        && prints(
-            alloc,
-            Answer::Committed { rev: 12, pages: 0 },
-            "ok rev 12 pages 0",
-        )
-        && prints(
-            alloc,
-            Answer::Full {
-                end: u64::MAX,
-                need: 7,
-            },
-            "no full 18446744073709551615 7",
-        );
-    assert!(rt; all);
+    assert!(rt; prints_elements(alloc) && prints_full(alloc) && prints_revision(alloc));
 }
 
 const CODES: [Code; 17] = [
@@ -92,9 +95,6 @@ const LINES: &str =
 #[test]
 fn refusals_are_printed(rt: HostRuntime) {
     for (code, line) in CODES.iter().zip(LINES.split(',')) {
-        assert!(rt;
-            prints(rt.alloc(), Answer::No { code: *code }, line),
-            "{line}"
-        );
+        assert!(rt; prints_code(rt.alloc(), *code, line));
     }
 }
