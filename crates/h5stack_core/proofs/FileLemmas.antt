@@ -43,7 +43,7 @@ file_run view file tells v id end x e is array same admitted h =
 pub unmounted_run : (file : List ℕ) (reads prints : Bool) (script old : List ℕ) (s : Stop) → ((why : Refusal) → s ≡ stop.Refused why → IsRefused (array_in file) (end_in file) why)
     → Answers (Opens file) (IsRefusedFile file) (record { reads = reads; prints = prints; script = script; left = script; old = old; new = old }) (stopped s)
 unmounted_run file reads prints script old (stop.Refused why) h = AtMount (h why refl)
-unmounted_run file reads prints script old stop.Failed h = inl (λ told. refl)
+unmounted_run file reads prints script old stop.Failed h = inl (record { unread = refl; silent = λ told. refl })
 unmounted_run file reads prints script old stop.NoMemory h = tt
 
 goes_wider : (tells : Bool) (P Q : List ℕ → Type 0) (v w : View) → ((q : List ℕ) → P q → Q q) → Goes tells P v w → Goes tells Q v w

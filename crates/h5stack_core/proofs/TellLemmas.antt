@@ -3,7 +3,7 @@ use Rattle.std.proofs.Common.{◌≡◌, ◌⊎◌, ℕ, ◌<◌, ◌^◌, Bool,
 use Rattle.outside.specs.Causes.{Rose}
 use Rattle.outside.specs.Store.{SomeRose}
 use Rattle.object_model.specs.Step.{Plain}
-use Rattle.h5stack_core.specs.Complete.{CanBeDone, IsCalm, IsToBeRefused}
+use Rattle.h5stack_core.specs.Complete.{CanBeDone, IsCalm, IsScripted, IsToBeRefused}
 use Rattle.h5stack_core.specs.Create.{Creates, LeftByCreate}
 use Rattle.h5stack_core.specs.Endings.{IsRefusal, IfNothingDone, EndsDone, EndsRefused}
 use Rattle.h5stack_core.specs.Files.{Opens, IsRefusedFile}
@@ -118,12 +118,12 @@ pub complete : (words : Result Asked WordFault) (tells : Telling) (before after 
     → ((file : List ℕ) → words ≡ Ok (Create file) → Creates tells file before after x.prints x.old x.new e)
     → ((file : List ℕ) → words ≡ Ok (Run file) → Runs tells file before after (Opens (before.view.files file)) (IsRefusedFile (before.view.files file)) x e)
     → (e ≡ Store → SomeRose before.view after.view) → (e ≡ Input → Rose i j) → (e ≡ Output → Rose o p)
-    → (asked : Asked) → words ≡ Ok asked → IsTrue tells.files → CanBeDone asked before.view.files x.reads x.script → IsCalm before.view after.view i j o p → EndsDone e
+    → (asked : Asked) → words ≡ Ok asked → IsTrue tells.files → CanBeDone asked before.view.files x.reads x.script → IsCalm (IsScripted (Ok asked)) before.view after.view i j o p → EndsDone e
 complete words tells before after x i j o p e create script store input output (Create file) is told can calm =
     create_done tells file before after x.prints x.old x.new o p e told can (λ at. calm.store (store at)) (λ at. calm.output (output at)) (create file is).left
 complete words tells before after x i j o p e create script store input output (Run file) is told (opens, reads, short) calm =
     script_done (Opens (before.view.files file)) (IsRefusedFile (before.view.files file)) x e (λ r why. opens_refused_by_none (before.view.files file) opens.0 r opens.1 why) reads short
-    (λ at. calm.store (store at)) (λ at. calm.source (input at)) (λ at. calm.output (output at)) ((script file is).answers told)
+    (λ at. calm.store (store at)) (λ at. calm.source tt (input at)) (λ at. calm.output (output at)) ((script file is).answers told)
 
 pub complete_refused : (words : Result Asked WordFault) (tells : Telling) (before after : Moment) (x : Transcript) (e : Ending)
     → ((file : List ℕ) → words ≡ Ok (Create file) → Creates tells file before after x.prints x.old x.new e)

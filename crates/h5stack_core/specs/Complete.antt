@@ -32,8 +32,8 @@ abbrev pub IsToBeRefused : Asked → Files → Type 0
 IsToBeRefused (Create file) files = 0 < length (files file)
 IsToBeRefused (Run file) files = (t : Plain) → Opens (files file) t → ⊥
 
--- no count of faults rose: of the store, of the source, of the output
-pub record IsCalm (old new : View) (reads reads_now prints prints_now : ℕ) : Type 0 where
+-- No count of faults rose: of the store, of the output, and, where a script is read, of the source.
+pub record IsCalm (Scripted : Type 0) (old new : View) (reads reads_now prints prints_now : ℕ) : Type 0 where
   pub store : SomeRose old new → ⊥
-  pub source : Rose reads reads_now → ⊥
+  pub source : Scripted → Rose reads reads_now → ⊥
   pub output : Rose prints prints_now → ⊥

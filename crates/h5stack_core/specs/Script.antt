@@ -98,6 +98,11 @@ pub record CutShort (Opens : Plain → Type 0) (x : Transcript) : Type 0 where
   pub opens : Opens tree
   pub answered : IsTrue x.reads → IsInPart x.prints tree x.script x.old x.new
 
+-- nothing is read or printed
+pub record IsUntouched (x : Transcript) : Type 0 where
+  pub unread : x.left ≡ x.script
+  pub silent : IsTrue x.prints → x.new ≡ x.old
+
 -- so many bytes of the script were taken
 abbrev pub IsFull : Transcript → Type 0
 IsFull x = length x.script ≡ 2 ^ 32 + length x.left
@@ -108,7 +113,7 @@ abbrev pub Answers : (Opens : Plain → Type 0) (IsRefused : Refusal → Type 0)
 Answers Opens IsRefused x Done = Ran Opens x Done
 Answers Opens IsRefused x SomeNot = Ran Opens x SomeNot
 Answers Opens IsRefused x (Words fault) = ⊥
-Answers Opens IsRefused x Store = (IsTrue x.prints → x.new ≡ x.old) ⊎ CutShort Opens x
+Answers Opens IsRefused x Store = IsUntouched x ⊎ CutShort Opens x
 Answers Opens IsRefused x (Refused reason) = IsRefused reason
 Answers Opens IsRefused x Input = Stopped Opens x
 Answers Opens IsRefused x Output = CutShort Opens x

@@ -139,8 +139,8 @@ pub fn run<S: Store, I: Source, O: Sink, E: Sink, C: Clock>(
     // memory.
     ensures complete { (asked : Asked) → asked_by (texts words.now.items) ≡ Ok asked → IsTrue S.tells_files
         → CanBeDone asked (S.view store).files I.tells (I.left input.old)
-        → IsCalm (S.view store) (S.view result.store) (I.faults input.old) (I.faults input.new) (O.faults out.old)
-        (O.faults out.new)
+        → IsCalm (IsScripted (Ok asked)) (S.view store) (S.view result.store) (I.faults input.old) (I.faults input.new)
+        (O.faults out.old) (O.faults out.new)
         → EndsDone result.ending }
     ensures complete_refused { (asked : Asked) → asked_by (texts words.now.items) ≡ Ok asked → IsTrue S.tells_files
         → IsToBeRefused asked (S.view store).files → (SomeRose (S.view store) (S.view result.store) → ⊥)
