@@ -25,8 +25,8 @@ const ROWS: [(&str, &str); 10] = [
     (
         "mkdata /a i32be 3,0 chunk 1,2 max *,4 fill -7",
         "Mkdata { path: /a, elem: Int { size: 4, signed: true, big: true }, dims: Dims { sizes: [3, 0] }, \
-        chunk: Some(Dims { sizes: [1, 2] }), max: Some(Dims { sizes: [18446744073709551615, 4] }), fill: Some(Num(-7))
-        }",
+        chunk: Some(Dims { sizes: [1, 2] }), max: Some(Dims { sizes: [18446744073709551615, 4] }), \
+        fill: Some(Num(-7)) }",
     ),
     (
         "write /a 0 2 1 \"b\"",
