@@ -14,7 +14,8 @@ use Rattle.node_codec.specs.declared.chunk_node.ChunkNode.{ChunkNode}
 use Rattle.node_codec.specs.declared.chunk_node.ChunkKey.{ChunkKey}
 use Rattle.file_model.specs.Objects.{DataInfo}
 use Rattle.file_model.specs.Chunks.{Chunk, Under, ComesFirst, AreAscending, AreChildren, IsFrom, IsBelow, IsStored, IsNode, IsIndex, is_read, IsIndexed, IsStoredBy}
-use Rattle.file_model.specs.Refusals.{Refusal, IsBlockRefused, IsPlacedRefused}
+use Rattle.h5_base.specs.declared.refusal.Refusal.{Refusal}
+use Rattle.outside.specs.Blocks.{IsBlockRefused, IsPlacedRefused}
 use Rattle.file_model.specs.RefusedChunks.{RefusedChunks, IsChunkRefused, ChunkBlock, WrongBytes, WrongOffset, AreOffsetsRefused, BelowKey, AboveKey, OffsetsDisordered, AreChunksRefused, IsChunkNodeRefused, NodeBlock, NoNode, InChildren, IsChunkIndexRefused, chunk_level, IsStorageRefused, RawBlock, InIndex}
 use Rattle.file_model.proofs.UniqueChunks.{IsOne, stored_same, index_same, level_of}
 use Rattle.file_model.proofs.NoFault.{Room, free_of, not_refused, room_after, placed_not_refused}

@@ -4,8 +4,10 @@ use Rattle.std.proofs.lemmas.Bool.Decides.{nat_tests}
 use Rattle.std.specs.List.{Contains}
 use Rattle.std.proofs.lemmas.List.{append_assoc, length-append}
 use Rattle.h5_base.specs.declared.kinds.BlockKind.{BlockKind}
-use Rattle.outside.specs.Blocks.{Block, Bounds, BlockFault, TooMany, LinkedTwice, Overlap, Outside, AreApart, IsApart, AllApart, AllSome, IsInside, AllInside, AreKept, IsFault, Share, placed, most_blocks}
-use Rattle.file_model.specs.Refusals.{Refusal, IsBlockRefused, IsPlacedRefused}
+use Rattle.outside.specs.Blocks.{Block, Bounds, AreApart, IsApart, AllApart, AllSome, IsInside, AllInside, AreKept, Share, placed, most_blocks}
+use Rattle.outside.specs.Blocks.{Again, Shares, Outside, OneMore}
+use Rattle.h5_base.specs.declared.refusal.Refusal.{Refusal}
+use Rattle.outside.specs.Blocks.{IsBlockRefused, IsPlacedRefused}
 
 -- all blocks of a file: those met so far, and those that come
 pub record Room (e : Bounds) (met later : List Block) : Type 0 where
@@ -100,15 +102,12 @@ no_share : (x y : Block) (at : ℕ) → Share x y at → AreApart x y → ⊥
 no_share x y at s (inl h) = let g = s.greater in let a = s.in_first in let c = s.in_second in omega arith
 no_share x y at s (inr h) = let g = s.greater in let a = s.in_first in let c = s.in_second in omega arith
 
-pub no_fault : (e : Bounds) (met : List Block) (x : Block) (f : BlockFault) → IsFree e met x → IsFault e met x f → ⊥
-no_fault e met x TooMany free h = let few = free.few in omega (arith, few, h)
-no_fault e met x (LinkedTwice at) free h =
-    no_twice x h.2.0 free.some (some_of met h.2.0 free.others h.2.1) (sym h.2.2) (apart_of x met h.2.0 free.apart h.2.1)
-no_fault e met x (Overlap at) free h = no_share x h.2.other at h.2.share (apart_of x met h.2.other free.apart h.2.one)
-no_fault e met x Outside free h = h.3 free.inside
-
 pub not_refused : (e : Bounds) (met : List Block) (x : Block) (kind : BlockKind) (r : Refusal) → IsFree e met x → IsBlockRefused e met x kind r → ⊥
-not_refused e met x kind r free h = no_fault e met x h.fault free h.is_fault
+not_refused e met x kind r free (Again begins line) =
+    no_twice x begins.0 free.some (some_of met begins.0 free.others begins.1) (sym begins.2) (apart_of x met begins.0 free.apart begins.1)
+not_refused e met x kind r free (Shares at new over line) = no_share x over.other at over.share (apart_of x met over.other free.apart over.one)
+not_refused e met x kind r free (Outside new apart outside line) = outside free.inside
+not_refused e met x kind r free (OneMore new apart inside full line) = let few = free.few in omega (arith, few, full)
 
 -- the blocks that come next were met
 pub room_after : (e : Bounds) (met xs later : List Block) → Room e met (xs ++ later) → Room e (met ++ xs) later

@@ -14,7 +14,8 @@ use Rattle.node_codec.specs.declared.heap.HeapHead.{HeapHead}
 use Rattle.object_model.specs.Tree.{Name, name_lt, AreOrdered}
 use Rattle.file_model.specs.Groups.{Ks, Found, Header, Text, HasText, IsTarget, AreLinks, AreBetween, Under, AreChildren, IsLeaf, IsNode, IsIndex, HasLinks}
 use Rattle.file_model.specs.Limits.{IsSmallHeap, most_segment}
-use Rattle.file_model.specs.Refusals.{Refusal, IsBlockRefused, IsPlacedRefused}
+use Rattle.h5_base.specs.declared.refusal.Refusal.{Refusal}
+use Rattle.outside.specs.Blocks.{IsBlockRefused, IsPlacedRefused}
 use Rattle.file_model.specs.RefusedGroups.{RefusedUnder, HasNoText, IsLeafRefused, LeafBlock, NoLeaf, NoName, NoValue, NamesDisordered, names_of, IsKeyRefused, NoKey, NotBetween, LinksDisordered, AreChildrenRefused, IsNodeRefused, NodeBlock, NoNode, InChildren, IsIndexRefused, heap_block, root_level, IsTableRefused, HeapBlock, NoHeap, LargeHeap, SegmentBlock, InNodes}
 use Rattle.file_model.proofs.UniqueGroups.{text_same, IsOne, leaf_same, index_same, level_of}
 use Rattle.file_model.proofs.NoFault.{Room, free_of, not_refused, room_after, placed_not_refused, contains_cases, no_element}

@@ -13,7 +13,9 @@ use Rattle.header_codec.specs.Headers.{SpellsPrefix}
 use Rattle.header_codec.specs.declared.types.Prefix.{Prefix}
 use Rattle.file_model.specs.Headers.{Met, Stand, after, IsWhole, AreWhole, Part, IsRead, AreMet, IsHeader, continued, first_block, header_blocks, messages_of, later_header}
 use Rattle.file_model.specs.Limits.{most_header, header_bytes}
-use Rattle.file_model.specs.Refusals.{Refusal, IsBlockRefused, IsReading, IsNext, so_far, met_bytes, IsMessageRefused, EndedEarly, BadMessage, LargeHeader, BadContinuation, IsHeaderRefused, LaterHeader, PrefixBlock, NoPrefix, LargeFirst, HeaderBlock, InMessages}
+use Rattle.h5_base.specs.declared.refusal.Refusal.{Refusal}
+use Rattle.outside.specs.Blocks.{IsBlockRefused}
+use Rattle.file_model.specs.Refusals.{IsReading, IsNext, so_far, met_bytes, IsMessageRefused, EndedEarly, BadMessage, LargeHeader, BadContinuation, IsHeaderRefused, LaterHeader, PrefixBlock, NoPrefix, LargeFirst, HeaderBlock, InMessages}
 use Rattle.file_model.proofs.UniqueHeaders.{message_same, stand_short, read_same}
 use Rattle.file_model.proofs.NoFault.{Room, IsFree, free_of, free_less, not_refused, room_after, placed_not_refused}
 

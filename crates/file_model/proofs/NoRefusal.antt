@@ -15,7 +15,9 @@ use Rattle.file_model.specs.Objects.{DataInfo, has, IsGroupHeader, IsDataHeader}
 use Rattle.file_model.specs.Groups.{Ks, Found, Target, Header, Text, HasLinks}
 use Rattle.file_model.specs.Holds.{GroupAt, DataAt, OtherAt, LeafAt, DataLeaf, SoftLeaf, OtherLeaf, Full, FullLinks, IsGroup, IsData, IsUnknown, Unsupported, Later, IsHeld, AreHeld, IsLeafHeld, founds, target_of, leaf_target, leaf_blocks, blocks_of, blocks_in, ks_of, IsDriver, HasDriver, HoldsFull, super_bytes_of}
 use Rattle.file_model.specs.Limits.{most_depth, most_objects, most_header, header_bytes, IsShort, depth_to, depth_in, objects_of, objects_in, leaf_objects, Fits, AllFit, LeafFits, IsWithinLimits}
-use Rattle.file_model.specs.Refusals.{Refusal, IsBlockRefused, IsHeaderRefused, LaterHeader, PrefixBlock, NoPrefix, LargeFirst, HeaderBlock, InMessages}
+use Rattle.h5_base.specs.declared.refusal.Refusal.{Refusal}
+use Rattle.outside.specs.Blocks.{IsBlockRefused}
+use Rattle.file_model.specs.Refusals.{IsHeaderRefused, LaterHeader, PrefixBlock, NoPrefix, LargeFirst, HeaderBlock, InMessages}
 use Rattle.file_model.specs.RefusedGroups.{IsTableRefused}
 use Rattle.file_model.specs.RefusedChunks.{IsStorageRefused}
 use Rattle.file_model.specs.RefusedTree.{RefusedObject, IsTargetRefused, AreLinksRefused, IsRefusedWith, ObjectTooMany, InHeader, InTable, InStorage, InLinks, IsObjectRefused, IsDriverRefused, DriverBegin, NoDriver, OtherDriver, DriverBlock, super_block, IsFileRefused, NoSuper, InDriver, InTree, LaterRoot, NoGroup}

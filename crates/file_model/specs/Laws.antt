@@ -10,7 +10,7 @@ use Rattle.object_model.specs.Step.{Plain, new_group}
 use Rattle.outside.specs.Blocks.{Block, Bounds, Agree}
 use Rattle.file_model.specs.Groups.{Ks}
 use Rattle.file_model.specs.Limits.{IsWithinLimits}
-use Rattle.file_model.specs.Refusals.{Refusal}
+use Rattle.h5_base.specs.declared.refusal.Refusal.{Refusal}
 use Rattle.file_model.specs.RefusedTree.{IsFileRefused}
 use Rattle.file_model.specs.Holds.{Full, FullLinks, GroupAt, IsHeld, AreHeld, blocks_of, blocks_in, leaf_blocks}
 use Rattle.file_model.specs.Holds.{target_of, plain, Holds, HoldsFull}

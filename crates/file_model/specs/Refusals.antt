@@ -1,13 +1,12 @@
--- Why the blocks of a file are refused, and why an object's header is: by bytes that are reached once all before them
--- was read, beside the blocks that were met before. Cited by what opens a file.
-use Rattle.std.specs.Prelude.{◌≡◌, ◌≢◌, ℕ, ◌+◌, ◌<◌, ◌≤◌, List, [], ◌∷◌, ◌++◌, length, Some}
+-- Why an object's header is refused: by bytes that are reached once all before them was read, beside the blocks that
+-- were met before. Cited by what opens a file.
+use Rattle.std.specs.Prelude.{◌≡◌, ◌≢◌, ℕ, ◌+◌, ◌<◌, ◌≤◌, List, [], ◌∷◌, ◌++◌, length}
 use Rattle.std.specs.List.{sum_by}
 use Rattle.outside.specs.Array.{Array, bytes_of}
-use Rattle.outside.specs.Blocks.{Block, Bounds, BlockFault, IsFault}
-use Rattle.outside.specs.Blocks.{TooMany as TooManyBlocks, LinkedTwice as BeginsTwice, Overlap as Overlaps, Outside}
-use Rattle.h5_base.specs.declared.kinds.BlockKind.{BlockKind}
+use Rattle.outside.specs.Blocks.{Block, Bounds, IsBlockRefused, IsPlacedRefused}
+use Rattle.h5_base.specs.declared.refusal.Refusal.{Refusal}
+use Rattle.h5_base.specs.declared.refusal.Refusal.TheVariants.{Malformed, Unsupported}
 use Rattle.h5_base.specs.declared.kinds.BlockKind.TheVariants as kind
-use Rattle.h5_base.specs.declared.kinds.What.{What}
 use Rattle.h5_base.specs.declared.kinds.What.TheVariants as what
 use Rattle.h5_base.specs.Fields.{u64_at}
 use Rattle.header_codec.specs.Headers.{SpellsPrefix}
@@ -15,34 +14,6 @@ use Rattle.header_codec.specs.declared.types.Prefix.{Prefix}
 use Rattle.file_model.specs.Headers.{Met, Stand, after, AreWhole, Part, AreMet, first_block, header_blocks}
 use Rattle.file_model.specs.Headers.{later_header}
 use Rattle.file_model.specs.Limits.{most_header}
-
--- a line of the refusals of files that the reading of a tree can end with
-pub data Refusal : Type 0 where
-  Malformed : ℕ → BlockKind → Refusal
-  Unsupported : What → Refusal
-  LinkedTwice : ℕ → Refusal
-  Overlap : ℕ → Refusal
-  TooDeep : Refusal
-  TooMany : Refusal
-
--- ---- a block beside those met before it
-
--- a block that leaves its region's end is malformed as its kind
-abbrev pub of_fault : ℕ → BlockKind → BlockFault → Refusal
-of_fault at kind TooManyBlocks = TooMany
-of_fault at kind (BeginsTwice n) = LinkedTwice n
-of_fault at kind (Overlaps n) = Overlap n
-of_fault at kind Outside = Malformed at kind
-
-pub record IsBlockRefused (e : Bounds) (met : List Block) (x : Block) (kind : BlockKind) (r : Refusal) : Type 0 where
-  pub fault : BlockFault
-  pub is_fault : IsFault e met x fault
-  pub line : r ≡ of_fault x.start kind fault
-
--- an empty block has no place, and isn't refused
-pub record IsPlacedRefused (e : Bounds) (met : List Block) (at len : ℕ) (kind : BlockKind) (r : Refusal) : Type 0 where
-  pub some : 0 < len
-  pub refused : IsBlockRefused e met (record { start = at; len = len }) kind r
 
 -- ---- an object's header
 

@@ -12,7 +12,9 @@ use Rattle.node_codec.specs.ChunkNodes.{SpellsChunkNode, chunk_node_len, chunk_n
 use Rattle.node_codec.specs.declared.chunk_node.ChunkNode.{ChunkNode}
 use Rattle.node_codec.specs.declared.chunk_node.ChunkKey.{ChunkKey}
 use Rattle.file_model.specs.Objects.{DataInfo}
-use Rattle.file_model.specs.Refusals.{Refusal, Malformed, IsBlockRefused, IsPlacedRefused}
+use Rattle.h5_base.specs.declared.refusal.Refusal.{Refusal}
+use Rattle.h5_base.specs.declared.refusal.Refusal.TheVariants.{Malformed}
+use Rattle.outside.specs.Blocks.{IsBlockRefused, IsPlacedRefused}
 use Rattle.file_model.specs.Chunks.{Chunk, Under, AreMultiples, chunk_sizes, IsFrom, IsBelow, AreAscending, IsStored}
 use Rattle.file_model.specs.Chunks.{IsIndex, is_read}
 

@@ -15,7 +15,9 @@ use Rattle.node_codec.specs.declared.heap.HeapHead.{HeapHead}
 use Rattle.object_model.specs.Tree.{Name, name_lt, AreOrdered}
 use Rattle.file_model.specs.Headers.{after}
 use Rattle.file_model.specs.Groups.{Ks, Found, HasText, AreBetween, Under, IsLeaf, IsIndex}
-use Rattle.file_model.specs.Refusals.{Refusal, Malformed, Unsupported, IsBlockRefused, IsPlacedRefused}
+use Rattle.h5_base.specs.declared.refusal.Refusal.{Refusal}
+use Rattle.h5_base.specs.declared.refusal.Refusal.TheVariants.{Malformed, Unsupported}
+use Rattle.outside.specs.Blocks.{IsBlockRefused, IsPlacedRefused}
 use Rattle.file_model.specs.Limits.{most_segment}
 
 -- what stands under a child is refused, after these blocks

@@ -17,7 +17,9 @@ use Rattle.file_model.specs.Groups.{Ks, Found, Target, Header, Text}
 use Rattle.file_model.specs.Holds.{GroupAt, Full, IsGroup, IsHeld, target_of, blocks_of, ks_of, HasDriver}
 use Rattle.file_model.specs.Holds.{super_bytes_of}
 use Rattle.file_model.specs.Limits.{most_depth, most_objects, objects_of}
-use Rattle.file_model.specs.Refusals.{Refusal, Malformed, Unsupported, TooDeep, TooMany, IsBlockRefused}
+use Rattle.h5_base.specs.declared.refusal.Refusal.{Refusal}
+use Rattle.h5_base.specs.declared.refusal.Refusal.TheVariants.{Malformed, Unsupported, TooDeep, TooMany}
+use Rattle.outside.specs.Blocks.{IsBlockRefused}
 use Rattle.file_model.specs.Refusals.{IsHeaderRefused}
 use Rattle.file_model.specs.RefusedGroups.{IsTableRefused}
 use Rattle.file_model.specs.RefusedChunks.{IsStorageRefused}

@@ -6,7 +6,7 @@ use Rattle.outside.specs.Space.{SpaceView}
 use Rattle.block_space.specs.Blocks.{Keeps}
 use Rattle.block_space.specs.declared.blocks.Blocks.{Blocks}
 use Rattle.file_model.specs.Groups.{Found, Under, AreChildren}
-use Rattle.file_model.specs.Refusals.{Refusal}
+use Rattle.h5_base.specs.declared.refusal.Refusal.{Refusal}
 use Rattle.file_model.specs.RefusedGroups.{RefusedUnder, IsKeyRefused, AreChildrenRefused}
 use Rattle.group_reader.specs.Reading.{FitKeys}
 

@@ -11,7 +11,7 @@ use Rattle.file_model.specs.Groups.{Found, Under, AreChildren}
 use Rattle.object_model.specs.Tree.{AreOrdered}
 use Rattle.file_model.specs.RefusedGroups.{RefusedUnder, names_of, IsKeyRefused, AreChildrenRefused}
 use Rattle.block_reader.specs.declared.stop.TreeStop.{TreeStop}
-use Rattle.block_reader.specs.Stops.{refusal_of}
+use Rattle.h5_base.specs.Refusals.{refusal_of}
 use Rattle.block_reader.proofs.Stopped.{if_some}
 use Rattle.group_reader.specs.declared.link.FoundLink.{FoundLink}
 use Rattle.group_reader.specs.Links.{links_of, Adds, AddsOrdered}

@@ -8,7 +8,8 @@ use Rattle.h5_base.specs.declared.kinds.BlockKind.TheVariants as kind
 use Rattle.node_codec.specs.declared.snod.SnodEntry.{SnodEntry}
 use Rattle.object_model.specs.Tree.{Name, name_lt, AreOrdered}
 use Rattle.file_model.specs.Groups.{Found, HasText, AreLinks}
-use Rattle.file_model.specs.Refusals.{Refusal, Malformed}
+use Rattle.h5_base.specs.declared.refusal.Refusal.{Refusal}
+use Rattle.h5_base.specs.declared.refusal.Refusal.TheVariants.{Malformed}
 use Rattle.file_model.specs.RefusedGroups.{names_of}
 use Rattle.block_reader.proofs.Stopped.{if_some}
 use Rattle.group_reader.specs.declared.link.FoundLink.{FoundLink}

@@ -9,10 +9,11 @@ use Rattle.node_codec.specs.declared.group_node.GroupNode.{GroupNode}
 use Rattle.block_space.specs.Blocks.{Keeps, space_of}
 use Rattle.block_space.specs.declared.blocks.Blocks.{Blocks}
 use Rattle.file_model.specs.Groups.{Ks, Found, Under, AreChildren, IsLeaf, IsNode, IsIndex}
-use Rattle.file_model.specs.Refusals.{Refusal, Malformed}
+use Rattle.h5_base.specs.declared.refusal.Refusal.{Refusal}
+use Rattle.h5_base.specs.declared.refusal.Refusal.TheVariants.{Malformed}
 use Rattle.file_model.specs.RefusedGroups.{RefusedUnder, AreChildrenRefused, IsLeafRefused, IsNodeRefused, NodeBlock, NoNode, InChildren, IsIndexRefused}
 use Rattle.block_reader.specs.declared.stop.TreeStop.{TreeStop}
-use Rattle.block_reader.specs.Stops.{refusal_of}
+use Rattle.h5_base.specs.Refusals.{refusal_of}
 use Rattle.block_reader.proofs.Stopped.{if_some, if_err}
 use Rattle.group_reader.specs.declared.link.FoundLink.{FoundLink}
 use Rattle.group_reader.specs.Links.{Adds}

@@ -9,10 +9,12 @@ use Rattle.node_codec.specs.declared.snod.SnodEntry.{SnodEntry}
 use Rattle.block_space.specs.Blocks.{Keeps, space_of}
 use Rattle.block_space.specs.declared.blocks.Blocks.{Blocks}
 use Rattle.file_model.specs.Groups.{Ks, Found, AreLinks, IsLeaf}
-use Rattle.file_model.specs.Refusals.{Refusal, Malformed, IsBlockRefused}
+use Rattle.h5_base.specs.declared.refusal.Refusal.{Refusal}
+use Rattle.h5_base.specs.declared.refusal.Refusal.TheVariants.{Malformed}
+use Rattle.outside.specs.Blocks.{IsBlockRefused}
 use Rattle.file_model.specs.RefusedGroups.{IsLeafRefused, LeafBlock, NoLeaf, NoName, NoValue, NamesDisordered}
 use Rattle.block_reader.proofs.Stopped.{if_some, if_err}
-use Rattle.block_reader.specs.Stops.{refusal_of}
+use Rattle.h5_base.specs.Refusals.{refusal_of}
 use Rattle.block_reader.specs.declared.stop.TreeStop.{TreeStop}
 use Rattle.group_reader.specs.declared.link.FoundLink.{FoundLink}
 use Rattle.group_reader.specs.Links.{Adds, AddsOrdered}

@@ -8,7 +8,9 @@ use Rattle.block_space.specs.declared.blocks.Blocks.{Blocks}
 use Rattle.h5_base.specs.declared.kinds.BlockKind.TheVariants as kind
 use Rattle.node_codec.specs.GroupNodes.{SpellsGroupNode, group_node_len}
 use Rattle.node_codec.specs.declared.group_node.GroupNode.{GroupNode}
-use Rattle.file_model.specs.Refusals.{Refusal, Malformed, IsBlockRefused}
+use Rattle.h5_base.specs.declared.refusal.Refusal.{Refusal}
+use Rattle.h5_base.specs.declared.refusal.Refusal.TheVariants.{Malformed}
+use Rattle.outside.specs.Blocks.{IsBlockRefused}
 use Rattle.block_reader.proofs.Stopped.{if_some}
 use Rattle.group_reader.specs.Reading.{node_block, IsNodeAt, IsHeadRefused}
 

@@ -13,10 +13,10 @@ use Rattle.block_space.specs.Blocks.{Keeps}
 use Rattle.block_space.specs.declared.blocks.Blocks.{Blocks}
 use Rattle.file_model.specs.Groups.{Ks, Found, AreChildren, IsIndex, HasLinks}
 use Rattle.file_model.specs.Limits.{most_segment, IsSmallHeap}
-use Rattle.file_model.specs.Refusals.{IsPlacedRefused}
+use Rattle.outside.specs.Blocks.{IsPlacedRefused}
 use Rattle.file_model.specs.RefusedGroups.{names_of, root_level, AreChildrenRefused, IsIndexRefused, IsTableRefused, SegmentBlock, InNodes, heap_block}
 use Rattle.block_reader.specs.declared.stop.TreeStop.{TreeStop}
-use Rattle.block_reader.specs.Stops.{refusal_of}
+use Rattle.h5_base.specs.Refusals.{refusal_of}
 use Rattle.block_reader.proofs.Stopped.{if_some}
 use Rattle.group_reader.specs.declared.link.FoundLink.{FoundLink}
 use Rattle.group_reader.specs.Links.{links_of, Adds, AddsOrdered}

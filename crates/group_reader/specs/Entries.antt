@@ -7,7 +7,8 @@ use Rattle.node_codec.specs.Snod.{soft_value_at}
 use Rattle.node_codec.specs.declared.snod.SnodEntry.{SnodEntry}
 use Rattle.object_model.specs.Tree.{Name, name_lt}
 use Rattle.file_model.specs.Groups.{HasText}
-use Rattle.file_model.specs.Refusals.{Refusal, Malformed}
+use Rattle.h5_base.specs.declared.refusal.Refusal.{Refusal}
+use Rattle.h5_base.specs.declared.refusal.Refusal.TheVariants.{Malformed}
 use Rattle.file_model.specs.RefusedGroups.{HasNoText}
 
 -- no text stands at the offset

@@ -11,10 +11,12 @@ use Rattle.block_space.specs.Blocks.{Keeps, space_of}
 use Rattle.block_space.specs.declared.blocks.Blocks.{Blocks}
 use Rattle.object_model.specs.Tree.{Name, AreOrdered}
 use Rattle.file_model.specs.Groups.{Ks, Found, HasText, AreBetween, Under, IsLeaf, IsIndex}
-use Rattle.file_model.specs.Refusals.{Refusal, Malformed, IsBlockRefused}
+use Rattle.h5_base.specs.declared.refusal.Refusal.{Refusal}
+use Rattle.h5_base.specs.declared.refusal.Refusal.TheVariants.{Malformed}
+use Rattle.outside.specs.Blocks.{IsBlockRefused}
 use Rattle.file_model.specs.RefusedGroups.{RefusedUnder, names_of, IsLeafRefused, IsIndexRefused}
 use Rattle.block_reader.specs.declared.stop.TreeStop.{TreeStop}
-use Rattle.block_reader.specs.Stops.{refusal_of}
+use Rattle.h5_base.specs.Refusals.{refusal_of}
 
 -- the bytes of the space
 abbrev pub array_of : {V : Type 0} → (V → SpaceView) → Blocks V → Array

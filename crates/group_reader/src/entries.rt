@@ -4,7 +4,7 @@ ghost use Rattle.node_codec.specs.Snod.{IsCache};
 ghost use Rattle.file_model.specs.Groups.{HasText, IsTarget, AreLinks};
 ghost use Rattle.file_model.specs.RefusedGroups.{names_of};
 ghost use Rattle.object_model.specs.Tree.{AreOrdered};
-ghost use Rattle.block_reader.specs.Stops.{refusal_of};
+ghost use Rattle.h5_base.specs.Refusals.{refusal_of};
 ghost use Rattle.group_reader.specs.Links.{target_of, found_of, links_of, IsLink, Adds};
 ghost use Rattle.group_reader.specs.Entries.{IsTextRefused, IsValueRefused, IsEntryRefused, AreEntriesRefused};
 

@@ -6,7 +6,7 @@ ghost use Rattle.node_codec.specs.Heap.{SpellsHeap};
 ghost use Rattle.block_space.specs.Blocks.{Keeps, space_of};
 ghost use Rattle.file_model.specs.Groups.{Ks};
 ghost use Rattle.file_model.specs.Limits.{most_segment};
-ghost use Rattle.file_model.specs.Refusals.{IsPlacedRefused};
+ghost use Rattle.outside.specs.Blocks.{IsPlacedRefused};
 ghost use Rattle.file_model.specs.RefusedGroups.{IsTableRefused, heap_block};
 ghost use Rattle.group_reader.specs.Reading.{array_of, Refuses};
 

@@ -1,7 +1,7 @@
 ghost use Rattle.std.specs.Prelude.{IfErr, IfSome, OnOk, IsErrOf};
 ghost use Rattle.object_model.specs.Tree.{AreOrdered};
 ghost use Rattle.file_model.specs.RefusedGroups.{names_of, IsKeyRefused};
-ghost use Rattle.block_reader.specs.Stops.{refusal_of};
+ghost use Rattle.h5_base.specs.Refusals.{refusal_of};
 ghost use Rattle.group_reader.specs.Links.{links_of};
 ghost use Rattle.group_reader.specs.Reading.{FitKeys};
 

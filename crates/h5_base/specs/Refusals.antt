@@ -1,6 +1,6 @@
--- The line that tells why a file is refused.
--- Cited by `Refusal`, and by the top call.
-use Rattle.std.specs.Prelude.{ℕ, List, ◌++◌, codes}
+-- Why a file is refused, of a stop of its reading; and the line that tells it.
+-- Cited by `Refusal`, by all that reads a file, and by the top call.
+use Rattle.std.specs.Prelude.{ℕ, List, ◌++◌, codes, Option, Some, None}
 use Rattle.std.specs.Fmt.{decimal}
 use Rattle.h5_base.specs.declared.kinds.BlockKind.{BlockKind}
 use Rattle.h5_base.specs.declared.kinds.BlockKind.TheVariants as kind
@@ -9,6 +9,14 @@ use Rattle.h5_base.specs.declared.kinds.What.TheVariants as what
 use Rattle.h5_base.specs.declared.refusal.Refusal.{Refusal}
 use Rattle.h5_base.specs.declared.refusal.Refusal.TheVariants.{Exists, Absent, Malformed, Unsupported, Truncated}
 use Rattle.h5_base.specs.declared.refusal.Refusal.TheVariants.{LinkedTwice, Overlap, TooDeep, TooMany}
+use Rattle.h5_base.specs.declared.refusal.Stop.{Stop}
+use Rattle.h5_base.specs.declared.refusal.Stop.TheVariants as stop
+
+-- the refusal that a stop tells; a fault and want of memory are none
+abbrev pub refusal_of : Stop → Option Refusal
+refusal_of (stop.Refused why) = Some why
+refusal_of stop.Failed = None
+refusal_of stop.NoMemory = None
 
 abbrev pub kind_word : BlockKind → List ℕ
 kind_word kind.Super = codes "super"

@@ -1,8 +1,9 @@
 ghost use Rattle.std.specs.Prelude.{◌≡◌, IfOk, string_bytes};
 ghost use Rattle.h5_base.specs.Refusals.{kind_word, what_word, line_of};
+ghost use Rattle.h5_base.specs.declared.refusal.Stop.TheVariants.{NoMemory};
 
 use crate::kinds::{BlockKind, What};
-use std::alloc::{AllocError, Global};
+use std::alloc::{AllocError, AllocFailed, Global};
 use thiserror::Error;
 
 /// Why a file is refused. Addresses and lengths are in bytes.
@@ -37,6 +38,50 @@ pub enum Stop {
     Failed,
     #[error("out of memory")]
     NoMemory,
+}
+
+impl Stop {
+    /// The bytes at an address don't spell a block of this kind, or the block leaves its region's end.
+    pub fn malformed(at: u64, kind: BlockKind) -> Stop
+        ensures { result ≡ Stop.Refused (Refusal.Malformed at kind) }
+    {
+        Stop::Refused {
+            why: Refusal::Malformed { at, kind },
+        }
+    }
+
+    /// The file asks for something that isn't supported.
+    pub fn unsupported(what: What) -> Stop
+        ensures { result ≡ Stop.Refused (Refusal.Unsupported what) }
+    {
+        Stop::Refused {
+            why: Refusal::Unsupported { what },
+        }
+    }
+}
+
+impl From<AllocError> for Stop {
+    ghost from_gives = { λ _ e. e ≡ NoMemory };
+
+    fn from(_e: AllocError) -> Stop {
+        Stop::NoMemory
+    }
+}
+
+impl<T: Drop> From<AllocFailed<T>> for Stop {
+    ghost from_gives = { λ _ e. e ≡ NoMemory };
+
+    fn from(_e: AllocFailed<T>) -> Stop {
+        Stop::NoMemory
+    }
+}
+
+impl From<crate::NoMemory> for Stop {
+    ghost from_gives = { λ _ e. e ≡ NoMemory };
+
+    fn from(_e: crate::NoMemory) -> Stop {
+        Stop::NoMemory
+    }
 }
 
 fn kind_word(kind: BlockKind) -> &'static str

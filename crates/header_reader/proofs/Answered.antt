@@ -9,14 +9,17 @@ use Rattle.block_space.specs.Blocks.{Keeps}
 use Rattle.block_space.specs.declared.blocks.Blocks.{Blocks}
 use Rattle.block_reader.specs.declared.stop.TreeStop.{TreeStop}
 use Rattle.block_reader.specs.declared.stop.TreeStop.TheVariants as stops
-use Rattle.block_reader.specs.Stops.{refusal_of}
+use Rattle.h5_base.specs.Refusals.{refusal_of}
 use Rattle.h5_base.specs.declared.kinds.BlockKind.TheVariants as kind
 use Rattle.h5_base.specs.declared.kinds.What.TheVariants as what
 use Rattle.header_codec.specs.Headers.{SpellsPrefix}
 use Rattle.header_codec.specs.declared.types.Prefix.{Prefix}
 use Rattle.file_model.specs.Headers.{AreWhole, IsHeader, Part, messages_of, header_blocks, later_header}
 use Rattle.file_model.specs.Limits.{header_bytes, most_header}
-use Rattle.file_model.specs.Refusals.{Refusal, Malformed, Unsupported, IsBlockRefused, IsMessageRefused, IsHeaderRefused, LaterHeader, PrefixBlock, NoPrefix, LargeFirst, HeaderBlock, InMessages}
+use Rattle.h5_base.specs.declared.refusal.Refusal.{Refusal}
+use Rattle.h5_base.specs.declared.refusal.Refusal.TheVariants.{Malformed, Unsupported}
+use Rattle.outside.specs.Blocks.{IsBlockRefused}
+use Rattle.file_model.specs.Refusals.{IsMessageRefused, IsHeaderRefused, LaterHeader, PrefixBlock, NoPrefix, LargeFirst, HeaderBlock, InMessages}
 use Rattle.object_header.specs.Firsts.{Firsts}
 use Rattle.object_header.specs.Gathered.{Gathers}
 use Rattle.header_reader.specs.declared.reading.Header.{Header}

@@ -12,11 +12,12 @@ use Rattle.outside.specs.Space.{SpaceView, bounds_of}
 use Rattle.block_space.specs.Blocks.{Keeps}
 use Rattle.block_space.specs.declared.blocks.Blocks.{Blocks}
 use Rattle.block_reader.specs.declared.stop.TreeStop.{TreeStop}
-use Rattle.block_reader.specs.Stops.{refusal_of}
+use Rattle.h5_base.specs.Refusals.{refusal_of}
 use Rattle.header_codec.specs.Headers.{SpellsMessage}
 use Rattle.header_codec.specs.declared.types.Message.{Message}
 use Rattle.file_model.specs.Headers.{Met, Stand, after, AreWhole, continued}
-use Rattle.file_model.specs.Refusals.{Refusal, met_bytes}
+use Rattle.h5_base.specs.declared.refusal.Refusal.{Refusal}
+use Rattle.file_model.specs.Refusals.{met_bytes}
 use Rattle.file_model.specs.Limits.{most_header}
 use Rattle.object_header.specs.Gathered.{Gathers}
 use Rattle.header_reader.specs.declared.walk.Walk.{Walk}

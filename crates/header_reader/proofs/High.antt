@@ -4,7 +4,8 @@ use Rattle.std.specs.List.{Contains}
 use Rattle.outside.specs.Blocks.{Block, Bounds, BlockFault, TooMany, LinkedTwice, Overlap, Outside, AreApart, IsApart, IsInside, AllInside, IsFault}
 use Rattle.outside.specs.Space.{SpaceView, AreRegions, bounds_of}
 use Rattle.h5_base.specs.declared.kinds.BlockKind.{BlockKind}
-use Rattle.file_model.specs.Refusals.{Refusal, IsBlockRefused}
+use Rattle.h5_base.specs.declared.refusal.Refusal.{Refusal}
+use Rattle.outside.specs.Blocks.{IsBlockRefused}
 use Rattle.file_model.proofs.NoFault.{contains_cases, no_element}
 
 inside_of : (e : Bounds) (met : List Block) (y : Block) → AllInside e met → Contains met y → IsInside e y

@@ -17,7 +17,10 @@ use Rattle.header_codec.specs.declared.types.Prefix.{Prefix}
 use Rattle.h5_base.specs.declared.kinds.BlockKind.TheVariants as kind
 use Rattle.file_model.specs.Headers.{Met, after, AreWhole, Part, AreMet, continued, first_block, header_blocks, messages_of}
 use Rattle.file_model.specs.Limits.{header_bytes, most_header}
-use Rattle.file_model.specs.Refusals.{Refusal, Malformed, EndedEarly, IsPlacedRefused, IsReading, IsNext, IsMessageRefused, met_bytes}
+use Rattle.h5_base.specs.declared.refusal.Refusal.{Refusal}
+use Rattle.h5_base.specs.declared.refusal.Refusal.TheVariants.{Malformed}
+use Rattle.outside.specs.Blocks.{IsPlacedRefused}
+use Rattle.file_model.specs.Refusals.{EndedEarly, IsReading, IsNext, IsMessageRefused, met_bytes}
 use Rattle.file_model.specs.Refusals.{BadMessage as RefusedMessage, LargeHeader as RefusedLarge, BadContinuation as RefusedContinuation}
 use Rattle.file_model.proofs.NoHeader.{messages_so_far}
 use Rattle.object_header.specs.Firsts.{Firsts}

@@ -13,7 +13,10 @@ use Rattle.outside.specs.Blocks.{Block, Bounds}
 use Rattle.file_model.specs.Headers.{Met, Stand, after, IsWhole, AreWhole, continued, Part, IsRead, AreMet, first_block}
 use Rattle.file_model.specs.Headers.{messages_of}
 use Rattle.file_model.specs.Limits.{header_bytes, most_header}
-use Rattle.file_model.specs.Refusals.{Refusal, Malformed, Unsupported, IsPlacedRefused, met_bytes}
+use Rattle.h5_base.specs.declared.refusal.Refusal.{Refusal}
+use Rattle.h5_base.specs.declared.refusal.Refusal.TheVariants.{Malformed, Unsupported}
+use Rattle.outside.specs.Blocks.{IsPlacedRefused}
+use Rattle.file_model.specs.Refusals.{met_bytes}
 use Rattle.object_header.specs.Firsts.{Firsts}
 use Rattle.object_header.specs.Gathered.{Gathers}
 use Rattle.header_reader.specs.declared.walk.Walk.{Walk}

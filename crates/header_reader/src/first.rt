@@ -3,9 +3,10 @@ ghost use Rattle.std.specs.Prelude.{IsErrOf, length, take};
 ghost use Rattle.outside.specs.Blocks.{Block};
 ghost use Rattle.outside.specs.Space.{bounds_of};
 ghost use Rattle.block_space.specs.Blocks.{Keeps, space_of};
-ghost use Rattle.block_reader.specs.Stops.{refusal_of};
+ghost use Rattle.h5_base.specs.Refusals.{refusal_of};
 ghost use Rattle.file_model.specs.Headers.{later_header};
-ghost use Rattle.file_model.specs.Refusals.{IsBlockRefused, Malformed};
+ghost use Rattle.h5_base.specs.declared.refusal.Refusal.TheVariants.{Malformed};
+ghost use Rattle.outside.specs.Blocks.{IsBlockRefused};
 ghost use Rattle.h5_base.specs.declared.kinds.BlockKind.TheVariants as block_kind;
 
 use block_reader::{TreeStop, adopt};

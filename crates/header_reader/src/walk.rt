@@ -9,7 +9,7 @@ ghost use Rattle.outside.specs.Blocks.{Block, placed};
 ghost use Rattle.outside.specs.Causes.{Rose};
 ghost use Rattle.outside.specs.Space.{bounds_of};
 ghost use Rattle.block_space.specs.Blocks.{Keeps, space_of};
-ghost use Rattle.block_reader.specs.Stops.{refusal_of};
+ghost use Rattle.h5_base.specs.Refusals.{refusal_of};
 ghost use Rattle.file_model.specs.Headers.{Met, AreWhole, continued, first_block};
 ghost use Rattle.object_header.specs.Gathered.{Gathers};
 ghost use Rattle.file_model.specs.Refusals.{met_bytes};

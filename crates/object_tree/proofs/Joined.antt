@@ -7,7 +7,7 @@ use Rattle.outside.specs.Space.{SpaceView, bounds_of}
 use Rattle.block_space.specs.Blocks.{Keeps}
 use Rattle.block_space.specs.declared.blocks.Blocks.{Blocks}
 use Rattle.block_reader.specs.declared.stop.TreeStop.{TreeStop}
-use Rattle.block_reader.specs.Stops.{refusal_of}
+use Rattle.h5_base.specs.Refusals.{refusal_of}
 use Rattle.block_reader.proofs.Stopped.{if_some}
 use Rattle.object_model.specs.Tree.{Group, Name, AreOrdered}
 use Rattle.file_model.specs.Groups.{Ks, Found, Target, Header, HasLinks}

@@ -16,7 +16,8 @@ use Rattle.file_model.specs.Groups.{Ks}
 use Rattle.file_model.specs.Chunks.{Chunk, IsStoredBy, elements_of}
 use Rattle.file_model.specs.Holds.{DataLeaf, OtherLeaf, Unsupported, Later}
 use Rattle.file_model.specs.Limits.{most_header, header_bytes, IsShort}
-use Rattle.file_model.specs.Refusals.{Refusal, IsHeaderRefused}
+use Rattle.h5_base.specs.declared.refusal.Refusal.{Refusal}
+use Rattle.file_model.specs.Refusals.{IsHeaderRefused}
 use Rattle.file_model.specs.RefusedChunks.{IsStorageRefused}
 use Rattle.file_model.specs.RefusedTree.{RefusedObject, IsRefusedWith, InHeader, InStorage, IsObjectRefused}
 use Rattle.file_model.proofs.UniqueHeaders.{prefix_same, header_same}
@@ -24,7 +25,7 @@ use Rattle.file_model.proofs.UniqueTree.{not_later}
 use Rattle.object_header.specs.declared.types.ObjectKind.{ObjectKind}
 use Rattle.object_header.specs.declared.types.ObjectKind.TheVariants as kind
 use Rattle.block_reader.specs.declared.stop.TreeStop.{TreeStop}
-use Rattle.block_reader.specs.Stops.{refusal_of}
+use Rattle.h5_base.specs.Refusals.{refusal_of}
 use Rattle.block_reader.proofs.Stopped.{if_some}
 use Rattle.header_reader.specs.Found.{IsFound}
 use Rattle.header_reader.specs.declared.reading.Header.{Header}

@@ -8,13 +8,13 @@ use Rattle.outside.specs.Space.{SpaceView}
 use Rattle.block_space.specs.Blocks.{Keeps}
 use Rattle.block_space.specs.declared.blocks.Blocks.{Blocks}
 use Rattle.block_reader.specs.declared.stop.TreeStop.{TreeStop}
-use Rattle.block_reader.specs.Stops.{refusal_of}
+use Rattle.h5_base.specs.Refusals.{refusal_of}
 use Rattle.block_reader.proofs.Stopped.{if_some}
 use Rattle.object_model.specs.Tree.{Group, Leaf, Name}
 use Rattle.file_model.specs.Groups.{Ks, Target, Header, Text, HasLinks}
 use Rattle.file_model.specs.Holds.{GroupAt, LeafAt, DataLeaf, SoftLeaf, OtherLeaf, Full, FullLinks, IsGroup, founds, blocks_in, blocks_of}
 use Rattle.file_model.specs.Limits.{IsSmallHeap, leaf_objects}
-use Rattle.file_model.specs.Refusals.{Refusal}
+use Rattle.h5_base.specs.declared.refusal.Refusal.{Refusal}
 use Rattle.file_model.specs.RefusedGroups.{IsTableRefused}
 use Rattle.file_model.specs.RefusedTree.{AreLinksRefused, IsRefusedWith, InTable, InLinks, IsObjectRefused}
 use Rattle.tree_nodes.specs.declared.node.Node.{Node}

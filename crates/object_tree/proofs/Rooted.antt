@@ -13,7 +13,7 @@ use Rattle.h5_base.specs.declared.kinds.What.TheVariants as what
 use Rattle.block_space.specs.Blocks.{Keeps}
 use Rattle.block_space.specs.declared.blocks.Blocks.{Blocks}
 use Rattle.block_reader.specs.declared.stop.TreeStop.{TreeStop}
-use Rattle.block_reader.specs.Stops.{refusal_of}
+use Rattle.h5_base.specs.Refusals.{refusal_of}
 use Rattle.block_reader.proofs.Stopped.{if_some}
 use Rattle.super_codec.specs.Super.{Spells, super_len, stop_of}
 use Rattle.super_codec.specs.declared.superblock.Superblock.{Superblock}
@@ -25,7 +25,10 @@ use Rattle.file_model.specs.Groups.{Ks, HasLinks}
 use Rattle.file_model.specs.Holds.{GroupAt, Full, FullLinks, IsGroup, IsHeld, AreHeld, founds, blocks_in, ks_of, HasDriver, super_bytes_of, HoldsFull}
 use Rattle.file_model.specs.Limits.{IsSmallHeap, IsWithinLimits}
 use Rattle.file_model.specs.Laws.{all_blocks}
-use Rattle.file_model.specs.Refusals.{Refusal, Unsupported, IsBlockRefused, IsHeaderRefused}
+use Rattle.h5_base.specs.declared.refusal.Refusal.{Refusal}
+use Rattle.h5_base.specs.declared.refusal.Refusal.TheVariants.{Unsupported}
+use Rattle.outside.specs.Blocks.{IsBlockRefused}
+use Rattle.file_model.specs.Refusals.{IsHeaderRefused}
 use Rattle.file_model.specs.RefusedGroups.{IsTableRefused}
 use Rattle.file_model.proofs.NoRefusal.{not_refused_file}
 use Rattle.file_model.specs.RefusedTree.{IsRefusedWith, InHeader, InTable, InLinks, IsObjectRefused, IsFileRefused, NoSuper, InTree, LaterRoot, NoGroup, super_block, of_super}

@@ -7,13 +7,13 @@ use Rattle.outside.specs.Space.{SpaceView, bounds_of}
 use Rattle.block_space.specs.Blocks.{Keeps}
 use Rattle.block_space.specs.declared.blocks.Blocks.{Blocks}
 use Rattle.block_reader.specs.declared.stop.TreeStop.{TreeStop}
-use Rattle.block_reader.specs.Stops.{refusal_of}
+use Rattle.h5_base.specs.Refusals.{refusal_of}
 use Rattle.block_reader.proofs.Stopped.{if_some}
 use Rattle.object_model.specs.Tree.{Empty, Link, Group, Leaf, Name, names, AreOrdered}
 use Rattle.file_model.specs.Groups.{Ks, Found}
 use Rattle.file_model.specs.Holds.{LeafAt, DataLeaf, SoftLeaf, OtherLeaf, Full, FullLinks, AreHeld, IsHeld, founds, blocks_in, blocks_of, target_of as full_target}
 use Rattle.file_model.specs.Limits.{Fits, AllFit, depth_in, depth_to, objects_of as full_objects, objects_in, leaf_objects}
-use Rattle.file_model.specs.Refusals.{Refusal}
+use Rattle.h5_base.specs.declared.refusal.Refusal.{Refusal}
 use Rattle.file_model.specs.RefusedTree.{RefusedObject, IsTargetRefused, AreLinksRefused, IsObjectRefused}
 use Rattle.group_reader.specs.declared.link.FoundLink.{FoundLink}
 use Rattle.group_reader.specs.Links.{found_of, target_of}

@@ -11,7 +11,7 @@ use Rattle.file_model.specs.Groups.{Ks, Found, Target, Header, HasLinks}
 use Rattle.file_model.specs.Holds.{LeafAt, Full, FullLinks, IsHeld, AreHeld, IsLeafHeld, leaf_target, leaf_blocks}
 use Rattle.file_model.specs.Holds.{target_of as full_target}
 use Rattle.file_model.specs.Limits.{most_header, header_bytes, LeafFits, Fits, AllFit, depth_to, depth_in}
-use Rattle.file_model.specs.Refusals.{Refusal}
+use Rattle.h5_base.specs.declared.refusal.Refusal.{Refusal}
 use Rattle.file_model.specs.RefusedGroups.{IsTableRefused}
 use Rattle.file_model.specs.RefusedTree.{IsObjectRefused, AreLinksRefused}
 use Rattle.object_header.specs.declared.types.ObjectKind.{ObjectKind}

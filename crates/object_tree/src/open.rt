@@ -5,7 +5,7 @@ ghost use Rattle.outside.specs.Causes.{Rose};
 ghost use Rattle.outside.specs.Space.{bounds_of};
 ghost use Rattle.h5_base.specs.declared.extent.MemClass.TheVariants as class;
 ghost use Rattle.block_space.specs.Blocks.{Keeps, space_of};
-ghost use Rattle.block_reader.specs.Stops.{refusal_of};
+ghost use Rattle.h5_base.specs.Refusals.{refusal_of};
 ghost use Rattle.super_codec.specs.Super.{Spells, Fits, super_len};
 ghost use Rattle.file_model.specs.Groups.{Ks};
 ghost use Rattle.file_model.specs.Holds.{GroupAt, FullLinks, HoldsFull, ks_of, super_bytes_of};

@@ -4,7 +4,7 @@ ghost use Rattle.outside.specs.Blocks.{Block};
 ghost use Rattle.outside.specs.Causes.{Rose};
 ghost use Rattle.outside.specs.Space.{bounds_of};
 ghost use Rattle.block_space.specs.Blocks.{Keeps, space_of};
-ghost use Rattle.block_reader.specs.Stops.{refusal_of};
+ghost use Rattle.h5_base.specs.Refusals.{refusal_of};
 ghost use Rattle.file_model.specs.Groups.{HasLinks};
 ghost use Rattle.file_model.specs.Holds.{Full, FullLinks, founds, blocks_of, blocks_in};
 ghost use Rattle.file_model.specs.Limits.{IsSmallHeap};

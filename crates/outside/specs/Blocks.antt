@@ -4,6 +4,9 @@ use Rattle.std.specs.Prelude.{◌≡◌, ℕ, ◌+◌, ◌≤◌, ◌<◌, ◌==
 use Rattle.std.specs.List.{Contains}
 use Rattle.outside.specs.Array.{Array, Ends}
 use Rattle.h5_base.specs.declared.extent.MemClass.{MemClass}
+use Rattle.h5_base.specs.declared.kinds.BlockKind.{BlockKind}
+use Rattle.h5_base.specs.declared.refusal.Refusal.{Refusal}
+use Rattle.h5_base.specs.declared.refusal.Refusal.TheVariants.{Malformed, LinkedTwice, Overlap, TooMany}
 
 pub record Block : Type 0 where
   pub start : ℕ
@@ -85,15 +88,17 @@ pub record IsOverlap (blocks : List Block) (x : Block) (at : ℕ) : Type 0 where
   pub share : Share x other at
   pub least : (y : Block) (n : ℕ) → Contains blocks y → Share x y n → at ≤ n
 
-pub data BlockFault : Type 0 where
-  TooMany : BlockFault
-  LinkedTwice : ℕ → BlockFault
-  Overlap : ℕ → BlockFault
-  Outside : BlockFault
+-- Why a block of at least one byte is refused beside the blocks that were met before it: the first of these reasons. A
+-- block that leaves its region's end is malformed as its kind.
+pub data IsBlockRefused (e : Bounds) (met : List Block) (x : Block) (kind : BlockKind) (r : Refusal) : Type 0 where
+  Again : BeginsOne met x.start → r ≡ LinkedTwice x.start → IsBlockRefused e met x kind r
+  Shares : (at : ℕ) → ¬ BeginsOne met x.start → IsOverlap met x at → r ≡ Overlap at → IsBlockRefused e met x kind r
+  Outside : ¬ BeginsOne met x.start → IsApart x met → ¬ IsInside e x → r ≡ Malformed x.start kind
+      → IsBlockRefused e met x kind r
+  OneMore : ¬ BeginsOne met x.start → IsApart x met → IsInside e x → most_blocks ≤ length met → r ≡ TooMany
+      → IsBlockRefused e met x kind r
 
--- A block of at least one byte is refused beside the blocks that were met before it: the first of these reasons.
-abbrev pub IsFault : Bounds → List Block → Block → BlockFault → Type 0
-IsFault e blocks x TooMany = most_blocks ≤ length blocks
-IsFault e blocks x (LinkedTwice at) = (length blocks < most_blocks) × (at ≡ x.start) × BeginsOne blocks x.start
-IsFault e blocks x (Overlap at) = (length blocks < most_blocks) × (¬ BeginsOne blocks x.start) × IsOverlap blocks x at
-IsFault e blocks x Outside = (length blocks < most_blocks) × (¬ BeginsOne blocks x.start) × IsApart x blocks × (¬ IsInside e x)
+-- an empty block has no place, and isn't refused
+pub record IsPlacedRefused (e : Bounds) (met : List Block) (at len : ℕ) (kind : BlockKind) (r : Refusal) : Type 0 where
+  pub some : 0 < len
+  pub refused : IsBlockRefused e met (record { start = at; len = len }) kind r

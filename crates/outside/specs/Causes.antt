@@ -10,3 +10,16 @@ Rose before now = min (before + 1) (2 ^ 64 - 1) ≤ now
 pub record HasCause {T E : Type 0} (before now : ℕ) (result : Result T E) : Type 0 where
   pub later : before ≤ now
   pub failed : OnErr result (Rose before now)
+
+-- counts of faults, by the number of a file
+abbrev pub Counts : Type 0
+Counts = ℕ → ℕ
+
+-- no count fell
+abbrev pub NoneFell : Counts → Counts → Type 0
+NoneFell before now = (k : ℕ) → before k ≤ now k
+
+-- one of the counts rose
+pub record OneRose (before now : Counts) : Type 0 where
+  pub file : ℕ
+  pub rose : Rose (before file) (now file)

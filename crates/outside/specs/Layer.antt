@@ -9,11 +9,13 @@ use Rattle.outside.specs.Causes.{Rose}
 use Rattle.outside.specs.Files.{Files}
 use Rattle.outside.specs.Store.{View}
 
--- What never changes of a layer: its regions, the names of its files, and of those the ones whose faults it answers.
+-- What never changes of a layer: its regions, the names of its files, and of those the ones whose faults it answers as
+-- its own and the ones whose faults it answers as a copy's.
 pub record LayerShape : Type 0 where
   pub regions : MemClass → Region
   pub files : List (List ℕ)
   pub blamed : List (List ℕ)
+  pub copied : List (List ℕ)
 
 -- n bytes from an address on lie in the region of a class, below its end
 pub record LiesWithin (shape : LayerShape) (ends : Ends) (class : MemClass) (at n : ℕ) : Type 0 where
@@ -44,3 +46,7 @@ pub record KeepsCounts (shape : LayerShape) (old new : View) : Type 0 where
 pub record Undisturbed (tells : Bool) (shape : LayerShape) (old new : View) : Type 0 where
   pub names : (i : ℕ) → 0 < length (old.names i) → new.names i ≡ old.names i
   pub files : IsTrue tells → SameIn shape.files old.files new.files
+
+-- each of these files is one of those
+abbrev pub AreAmong : List (List ℕ) → List (List ℕ) → Type 0
+AreAmong these those = (q : List ℕ) → Contains these q → Contains those q

@@ -5,11 +5,12 @@ use Rattle.std.specs.List.{Contains}
 use Rattle.std.specs.List.Sorted.{IsStrictlyIncreasing}
 use Rattle.h5_base.specs.declared.extent.Extent.{Extent}
 
--- a page meets n bytes from an address on
+-- a page meets n bytes from an address on, at least one of them
 pub record IsMet (page at n p : ℕ) : Type 0 where
   pub whole : p % page ≡ 0
   pub before : p < at + n
   pub behind : at < p + page
+  pub some : 0 < n
 
 -- one of the ranges meets the page
 abbrev pub MeetsOne : ℕ → List Extent → ℕ → Type 0

@@ -22,16 +22,20 @@ pub data Stored : Type 0 where
   Whole : Revision → Stored
   Damaged : ℕ → Stored
 
--- What a space with revisions tells beside its bytes: the revisions committed so far, from 0 on, the ends of revision 0,
--- the size of a page, where the committed bytes of the file with the revisions end, the pages of the last record, and the
--- pages written since the last commit.
+-- What a space with revisions always tells of them: how many are committed, revision 0 among them, the size of a page,
+-- where the committed bytes of the file with the revisions end, the pages of the last record, and the pages written since
+-- the last commit.
 pub record Committed : Type 0 where
-  pub revisions : List Stored
-  pub origin : Ends
+  pub count : ℕ
   pub page : ℕ
   pub committed_end : ℕ
   pub recorded : List ℕ
   pub written : List ℕ
+
+-- What it tells of them where it tells its bytes: the revisions committed so far, from 0 on, and the ends of revision 0.
+pub record History : Type 0 where
+  pub revisions : List Stored
+  pub origin : Ends
 
 -- the greatest end of a region that isn't empty, or 0
 pub record IsLogicalEnd (regions : MemClass → Region) (ends : Ends) (end : ℕ) : Type 0 where
@@ -55,13 +59,14 @@ pub record IsEndOf (r : Region) (origin page end : ℕ) (pages : List ℕ) (n : 
   pub met : Reaches r origin page end pages n
   pub above : (m : ℕ) → Reaches r origin page end pages m → m ≤ n
 
--- the revision that a commit of these bytes makes
-pub record IsNext (c : Committed) (regions : MemClass → Region) (ends : Ends) (array : Array) (comment : List ℕ) (moment : ℕ) (pages : List ℕ) (r : Revision) : Type 0 where
-  pub follows : r.number ≡ length c.revisions
+-- The revision of this number that a commit of these bytes makes, with these pages in its record.
+pub record IsNext (number : ℕ) (origin : Ends) (page : ℕ) (regions : MemClass → Region) (ends : Ends) (array : Array)
+    (comment : List ℕ) (moment : ℕ) (pages : List ℕ) (r : Revision) : Type 0 where
+  pub follows : r.number ≡ number
   pub comment_is : r.comment ≡ comment
   pub time : IsTimeOf moment r.time
   pub end : IsLogicalEnd regions ends r.end
-  pub ends_are : (class : MemClass) → IsEndOf (regions class) (c.origin class) c.page r.end pages (r.ends class)
+  pub ends_are : (class : MemClass) → IsEndOf (regions class) (origin class) page r.end pages (r.ends class)
   pub array_is : r.array ≡ array
 
 -- how many bytes a record of so many pages with a comment takes, and a history of so many records
@@ -73,19 +78,26 @@ history_len records = 20 + 20 * records
 
 -- where the committed bytes end after a commit with these pages in its record, of which so many were written
 abbrev pub end_after : Committed → ℕ → ℕ → ℕ → ℕ
-end_after c written recorded comment = c.committed_end + c.page * written + record_len recorded comment + history_len (length c.revisions)
+end_after c written recorded comment =
+    c.committed_end + c.page * written + record_len recorded comment + history_len c.count
 
--- What a commit that is done makes: one more revision, the pages of its record, and no page written since.
-pub record Commits (old : Committed) (regions : MemClass → Region) (ends : Ends) (array : Array) (comment : List ℕ) (secs : ℤ) (rev pages : ℕ) (new : Committed) : Type 0 where
-  pub moment : ℕ
-  pub moment_is : secs ≡ pos moment
-  pub revision : Revision
-  pub next : IsNext old regions ends array comment moment new.recorded revision
-  pub list : new.revisions ≡ old.revisions ++ Whole revision ∷ []
-  pub rev_is : rev ≡ revision.number
+-- What a commit that is done makes of what is always told: one more revision, the pages of its record, and no page
+-- written since.
+pub record Commits (old : Committed) (comment : List ℕ) (rev pages : ℕ) (new : Committed) : Type 0 where
+  pub rev_is : rev ≡ old.count
+  pub count : new.count ≡ old.count + 1
   pub pages_are : pages ≡ length old.written
   pub recorded : ArePages (OfEither old.recorded old.written) new.recorded
   pub written : new.written ≡ []
   pub end : new.committed_end ≡ end_after old pages (length new.recorded) (length comment)
   pub page : new.page ≡ old.page
+
+-- And what it makes of the revisions, where they are told: one more, of these bytes, with these pages in its record.
+pub record Appends (old : History) (page : ℕ) (regions : MemClass → Region) (ends : Ends) (array : Array)
+    (comment : List ℕ) (secs : ℤ) (pages : List ℕ) (new : History) : Type 0 where
+  pub moment : ℕ
+  pub moment_is : secs ≡ pos moment
+  pub revision : Revision
+  pub next : IsNext (length old.revisions) old.origin page regions ends array comment moment pages revision
+  pub list : new.revisions ≡ old.revisions ++ Whole revision ∷ []
   pub origin : new.origin ≡ old.origin

@@ -7,10 +7,10 @@ use Rattle.h5_base.specs.declared.extent.Region.{Region}
 use Rattle.h5_base.specs.declared.extent.Extent.{Extent}
 use Rattle.outside.specs.Array.{Array, Ends, over, SameOutside}
 use Rattle.outside.specs.Blocks.{Bounds}
-use Rattle.outside.specs.Causes.{Rose}
+use Rattle.outside.specs.Causes.{Rose, Counts, NoneFell, OneRose}
 use Rattle.outside.specs.Moments.{HasTime}
 use Rattle.outside.specs.Pages.{ArePages, OrMet, OrMetByOne, OfEither}
-use Rattle.outside.specs.Revisions.{Stored, Committed, end_after, Revision, Commits}
+use Rattle.outside.specs.Revisions.{Stored, Committed, History, end_after, Commits, Appends}
 use Rattle.outside.specs.declared.space.WriteStop.{WriteStop}
 use Rattle.outside.specs.declared.space.WriteStop.TheVariants as stop
 use Rattle.outside.specs.declared.space.CommitStop.{CommitStop}
@@ -19,7 +19,8 @@ use Rattle.outside.specs.declared.space.CommitAnswer.{CommitAnswer}
 use Rattle.outside.specs.declared.space.CommitAnswer.TheVariants as answer
 
 -- What a space tells: its bytes and where each class ends, its regions, whether it can be written, the ranges that it is
--- prepared for, and its revisions where it has them.
+-- prepared for, and, where it has revisions, how many with their pages. The bytes and the revisions themselves mean
+-- something only where it tells its bytes; all else is always told.
 pub record SpaceView : Type 0 where
   pub array : Array
   pub ends : Ends
@@ -27,6 +28,7 @@ pub record SpaceView : Type 0 where
   pub writable : Bool
   pub prepared : List Extent
   pub committed : Option Committed
+  pub history : History
 
 -- where its classes begin and end, for a stack with this kind of driver information block
 abbrev pub bounds_of : SpaceView → Option (List ℕ) → Bounds
@@ -34,12 +36,18 @@ bounds_of v own = record { starts = λ c. (v.regions c).start; ends = v.ends; ow
 
 -- Each end lies between the start and the limit of its region, of at most 2^48 bytes below 2^64, and two regions are
 -- equal or apart.
-pub record AreRegions (v : SpaceView) : Type 0 where
-  pub low : (c : MemClass) → (v.regions c).start ≤ v.ends c
-  pub high : (c : MemClass) → v.ends c ≤ (v.regions c).limit
-  pub small : (c : MemClass) → (v.regions c).limit ≤ (v.regions c).start + 2 ^ 48
-  pub fits : (c : MemClass) → (v.regions c).limit < 2 ^ 64
-  pub apart : (c d : MemClass) → ((v.regions c ≡ v.regions d) × (v.ends c ≡ v.ends d)) ⊎ ((v.regions c).limit ≤ (v.regions d).start) ⊎ ((v.regions d).limit ≤ (v.regions c).start)
+pub record AreRegions (regions : MemClass → Region) (ends : Ends) : Type 0 where
+  pub low : (c : MemClass) → (regions c).start ≤ ends c
+  pub high : (c : MemClass) → ends c ≤ (regions c).limit
+  pub small : (c : MemClass) → (regions c).limit ≤ (regions c).start + 2 ^ 48
+  pub fits : (c : MemClass) → (regions c).limit < 2 ^ 64
+  pub apart : (c d : MemClass) → ((regions c ≡ regions d) × (ends c ≡ ends d))
+      ⊎ ((regions c).limit ≤ (regions d).start) ⊎ ((regions d).limit ≤ (regions c).start)
+
+-- What a space tells is sound: its regions are, and where its bytes are told, as many revisions as it has.
+pub record IsSound (tells : Bool) (v : SpaceView) : Type 0 where
+  pub regions : AreRegions v.regions v.ends
+  pub counted : IsTrue tells → (c : Committed) → v.committed ≡ Some c → c.count ≡ length v.history.revisions
 
 -- n bytes from an address on lie in the region of a class, below its end
 pub record LiesIn (v : SpaceView) (class : MemClass) (at n : ℕ) : Type 0 where
@@ -85,12 +93,10 @@ pub record SameKind (old new : SpaceView) : Type 0 where
   pub writable : new.writable ≡ old.writable
   pub revisions : (new.committed ≡ None) ↔ (old.committed ≡ None)
 
--- n bytes from `at` on were written
+-- these bytes were written from `at` on, and no revision changed
 pub record Wrote (at : ℕ) (bytes : List ℕ) (old new : SpaceView) : Type 0 where
   pub array : new.array ≡ over old.array at bytes
-  pub ends : new.ends ≡ old.ends
-  pub prepared : new.prepared ≡ old.prepared
-  pub committed : TellsWritten at (length bytes) old.committed new.committed
+  pub history : new.history ≡ old.history
 
 abbrev pub same_region : Region → Region → Bool
 same_region r s = r.start == s.start && r.limit == s.limit
@@ -99,12 +105,9 @@ same_region r s = r.start == s.start && r.limit == s.limit
 abbrev pub raised : (MemClass → Region) → Ends → MemClass → ℕ → Ends
 raised regions ends class end = λ d. if same_region (regions d) (regions class) then end else ends d
 
--- the end of a class was raised; the new bytes read as 0
-pub record Raised (class : MemClass) (end : ℕ) (old new : SpaceView) : Type 0 where
-  pub array : new.array ≡ over old.array (old.ends class) (replicate (end - old.ends class) 0)
-  pub ends : new.ends ≡ raised old.regions old.ends class end
-  pub prepared : new.prepared ≡ old.prepared
-  pub committed : TellsWritten (old.ends class) (end - old.ends class) old.committed new.committed
+-- the new bytes below an end that was raised
+abbrev pub new_bytes : Ends → MemClass → ℕ → List ℕ
+new_bytes ends class end = replicate (end - ends class) 0
 
 -- each range that was given before, and is asked for again, stays given
 pub record StaysGiven (asked : List Extent) (old new : SpaceView) : Type 0 where
@@ -113,24 +116,22 @@ pub record StaysGiven (asked : List Extent) (old new : SpaceView) : Type 0 where
 
 -- ---- causes
 
--- Neither count falls, and each fault comes only where its own count rose.
-pub record HasCauses {T : Type 0} (before now copy_before copy_now : ℕ) (result : Result T WriteStop) : Type 0 where
-  pub later : before ≤ now
-  pub copy_later : copy_before ≤ copy_now
-  pub failed : IsErrOf result stop.Failed → Rose before now
-  pub copy_failed : IsErrOf result stop.WoFailed → Rose copy_before copy_now
+-- Each fault comes only where one of its own counts rose.
+pub record HasCauses {T : Type 0} (before now copy_before copy_now : Counts) (result : Result T WriteStop) : Type 0
+    where
+  pub failed : IsErrOf result stop.Failed → OneRose before now
+  pub copy_failed : IsErrOf result stop.WoFailed → OneRose copy_before copy_now
 
-pub record CommitCauses {T : Type 0} (before now copy_before copy_now : ℕ) (result : Result T CommitStop) : Type 0 where
-  pub later : before ≤ now
-  pub copy_later : copy_before ≤ copy_now
-  pub failed : IsErrOf result commit_stop.Failed → Rose before now
-  pub copy_failed : IsErrOf result commit_stop.WoFailed → Rose copy_before copy_now
+pub record CommitCauses {T : Type 0} (before now copy_before copy_now : Counts) (result : Result T CommitStop) : Type 0
+    where
+  pub failed : IsErrOf result commit_stop.Failed → OneRose before now
+  pub copy_failed : IsErrOf result commit_stop.WoFailed → OneRose copy_before copy_now
 
 -- ---- commits
 
 -- A commit passes a limit: 65,535 revisions, or 2^48 bytes, when the ranges are written before it.
 pub data PassesLimit (c : Committed) (ranges : List Extent) (comment : List ℕ) : Type 0 where
-  Count : 65536 ≤ length c.revisions → PassesLimit c ranges comment
+  Count : 65536 ≤ c.count → PassesLimit c ranges comment
   Bytes : (written recorded : List ℕ) → ArePages (OrMetByOne c.page c.written ranges) written → ArePages (OfEither c.recorded written) recorded
       → 2 ^ 48 < end_after c (length written) (length recorded) (length comment) → PassesLimit c ranges comment
 
@@ -143,41 +144,47 @@ IsRefusal (Some c) ranges comment secs refusal =
     ⊎ ((¬ PassesLimit c ranges comment) × HasTime secs × (refusal ≡ None))
 
 -- what a commit that is done leaves: one more revision, and no range given
-pub record Committing (comment : List ℕ) (secs : ℤ) (rev pages : ℕ) (old new : SpaceView) : Type 0 where
+pub record Committing (tells : Bool) (comment : List ℕ) (secs : ℤ) (rev pages : ℕ) (old new : SpaceView) : Type 0 where
   pub before : Committed
   pub after : Committed
   pub had : old.committed ≡ Some before
-  pub commits : Commits before old.regions old.ends old.array comment secs rev pages after
-  pub others : new ≡ record old { prepared = []; committed = Some after }
+  pub commits : Commits before comment rev pages after
+  pub appends : IsTrue tells → Appends old.history before.page old.regions old.ends old.array comment secs
+      after.recorded new.history
+  pub array : IsTrue tells → new.array ≡ old.array
+  pub others : new ≡ record old { array = new.array; prepared = []; committed = Some after; history = new.history }
 
 -- the answer of a commit, and what it leaves
-abbrev pub IsCommitted : List ℕ → ℤ → SpaceView → SpaceView → CommitAnswer → Type 0
-IsCommitted comment secs old new (answer.Done rev pages) = IsRefusal old.committed [] comment secs None × Committing comment secs rev pages old new
-IsCommitted comment secs old new a = IsRefusal old.committed [] comment secs (Some a) × (new ≡ old)
+abbrev pub IsCommitted : Bool → List ℕ → ℤ → SpaceView → SpaceView → CommitAnswer → Type 0
+IsCommitted tells comment secs old new (answer.Done rev pages) = IsRefusal old.committed [] comment secs None
+    × Committing tells comment secs rev pages old new
+IsCommitted tells comment secs old new a = IsRefusal old.committed [] comment secs (Some a) × (new ≡ old)
 
 -- ---- stops
 
--- the lists of revisions that snapshots since a moment leave, by a test of a moment and a list
+-- the lists of revisions that the snapshots of a moment leave, by a test of the moment and a list
 abbrev pub Lists : Type 1
 Lists = ℕ → List Stored → Type 0
 
--- Time goes on: what snapshots since an earlier moment leave was left before, or since the call began.
+-- Time goes on: what the snapshots of a moment leave was left by those of that moment before, unless the moment came
+-- since the call began.
 abbrev pub Continue : ℕ → Lists → Lists → Type 0
-Continue began old new = (m : ℕ) (list : List Stored) → new m list → old m list ⊎ new began list
+Continue began old new = (m : ℕ) (list : List Stored) → new m list → old m list ⊎ (began ≤ m)
 
 -- Every snapshot since a moment leaves a list that is told of.
 abbrev pub LeaveOnly : ℕ → (List Stored → Type 0) → Lists → Type 0
-LeaveOnly began Told new = (list : List Stored) → new began list → Told list
+LeaveOnly began Told new = (m : ℕ) (list : List Stored) → began ≤ m → new m list → Told list
 
-abbrev pub revisions_of : SpaceView → List Stored
-revisions_of v = listed v.committed
-  where
-    listed : Option Committed → List Stored
-    listed None = []
-    listed (Some c) = c.revisions
+-- A call that commits nothing, over snapshots: those of earlier moments leave what they left, and all since the call
+-- began leave just these revisions.
+pub record LeavesSame (began : ℕ) (revisions : List Stored) (old new : Lists) : Type 0 where
+  pub goes : Continue began old new
+  pub only : LeaveOnly began (λ list. list ≡ revisions) new
 
 -- the list as it was, or with the revision that the commit makes
 pub data MayBeMade (comment : List ℕ) (secs : ℤ) (v : SpaceView) (list : List Stored) : Type 0 where
-  Same : list ≡ revisions_of v → MayBeMade comment secs v list
-  More : (rev pages : ℕ) (before after : Committed) → v.committed ≡ Some before
-      → Commits before v.regions v.ends v.array comment secs rev pages after → list ≡ after.revisions → MayBeMade comment secs v list
+  Same : list ≡ v.history.revisions → MayBeMade comment secs v list
+  More : (before : Committed) (pages : List ℕ) (made : History) → v.committed ≡ Some before
+      → ArePages (OfEither before.recorded before.written) pages
+      → Appends v.history before.page v.regions v.ends v.array comment secs pages made → list ≡ made.revisions
+      → MayBeMade comment secs v list

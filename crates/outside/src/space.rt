@@ -1,8 +1,10 @@
 ghost use Rattle.std.specs.Prelude.{◌≡◌, ◌+◌, ◌-◌, ◌^◌, ◌≤◌, ◌↔◌, ℕ, ℤ, Bool, false, List, Some, None, length, IsTrue, IsErrOf, IfOk, OnOk, OnErr, Result};
 ghost use Rattle.outside.specs.Array.{bytes_of, over, SameOutside};
-ghost use Rattle.outside.specs.Causes.{HasCause};
+ghost use Rattle.outside.specs.Causes.{Counts, NoneFell, OneRose};
 ghost use Rattle.outside.specs.Revisions.{Stored};
-ghost use Rattle.outside.specs.Space.{SpaceView, LiesIn, IsReady, HasRoom, Ascend, SameKind, Wrote, Raised, StaysGiven, HasCauses, IsRefusal, IsCommitted, CommitCauses, Continue, LeaveOnly, MayBeMade, AreRegions, raised, revisions_of};
+ghost use Rattle.outside.specs.Space.{SpaceView, LiesIn, IsReady, HasRoom, Ascend, SameKind, Wrote, StaysGiven};
+ghost use Rattle.outside.specs.Space.{HasCauses, IsRefusal, IsCommitted, CommitCauses, Continue, LeaveOnly, LeavesSame};
+ghost use Rattle.outside.specs.Space.{MayBeMade, IsSound, TellsWritten, raised, new_bytes};
 
 use crate::{Failed, Kept};
 use h5_base::{Comment, Extent, MemClass, NoMemory, Region};
@@ -46,7 +48,11 @@ pub enum CommitStop {
 /// them in files of its own, and may have revisions. The regions of two classes are equal or apart.
 ///
 /// The calls that write need room: they write within the ranges that `prepare` was last given, and take no memory.
-/// After `Failed` or `WoFailed` it may no longer stand, and then no further call may be made.
+/// After `Failed` or `WoFailed` of a call that writes it may no longer stand, and then no further call may be made.
+///
+/// Who only reads leaves an alike space, also after a fault; the laws say what that is: it tells the same, stands, rests
+/// and is steady as before, and its counts of faults went on from there. So code that reads carries that one fact, and
+/// one cause.
 pub trait Space: Kept {
     /// It tells its bytes.
     ghost tells: { Bool };
@@ -60,11 +66,11 @@ pub trait Space: Kept {
     /// It stands: its calls may be made.
     ghost Stands: { Self → Type 0 };
 
-    /// The faults of its files, other than those of a strict splitter's copy.
-    ghost faults: { Self → ℕ };
+    /// The faults of each of its files, other than those of a strict splitter's copy.
+    ghost faults: { Self → Counts };
 
-    /// The faults of a strict splitter's copy.
-    ghost copy_faults: { Self → ℕ };
+    /// The faults of each file of a strict splitter's copy.
+    ghost copy_faults: { Self → Counts };
 
     /// Its files last as they read: a stop leaves just these bytes.
     ghost Rests: { Self → Type 0 };
@@ -79,7 +85,7 @@ pub trait Space: Kept {
     /// Every image that a stop now may leave has just the committed revisions.
     ghost Steady: { Self → Type 0 };
 
-    /// The lists of revisions that the snapshots since a moment leave, without those that agree by chance alone.
+    /// The lists of revisions that the snapshots of a moment leave, without those that agree by chance alone.
     ghost Leaves: { Self → ℕ → List Stored → Type 0 };
 
     /// Gives the bytes from `at` on, 0 where nothing is.
@@ -88,14 +94,7 @@ pub trait Space: Kept {
         requires fits { at + length out.old ≤ 2 ^ 64 }
         ensures bytes { IsTrue tells → OnOk result (out.new ≡ bytes_of (view self.old).array at (length out.old)) }
         ensures alike { Self.Alike self.old self.new }
-        ensures stands { OnOk result (Stands self.new) }
-        ensures cause { HasCause (faults self.old) (faults self.new) result }
-        ensures copy { copy_faults self.old ≤ copy_faults self.new }
-        ensures rests { OnOk result (Rests self.old → Rests self.new) }
-        ensures moment { moment self.old ≤ moment self.new }
-        ensures steady { IsTrue tells_stops → Steady self.old → OnOk result (Steady self.new) }
-        ensures leaves { IsTrue tells_stops → Steady self.old → LeaveOnly (moment self.old) (λ list. list ≡ revisions_of (view self.old)) (Leaves self.new) }
-        ensures past { IsTrue tells_stops → Continue (moment self.old) (Leaves self.old) (Leaves self.new) };
+        ensures failed { OnErr result (OneRose (faults self.old) (faults self.new)) };
 
     /// Writes the bytes from `at` on, a range within one region below its end. After `Failed` the bytes in the range
     /// may be any; after `WoFailed` they are written.
@@ -104,18 +103,22 @@ pub trait Space: Kept {
         requires inside { (class : MemClass) × LiesIn (view self.old) class at (length bytes.now) }
         requires ready { IsReady (view self.old) at (length bytes.now) }
         ensures wrote { IsTrue tells → OnOk result (Wrote at bytes.now (view self.old) (view self.new)) }
-        ensures wrote_main { IsTrue tells → IsErrOf result WriteStop.WoFailed → (view self.new).array ≡ over (view self.old).array at bytes.now }
-        ensures in_part { IsTrue tells → IsErrOf result WriteStop.Failed → SameOutside at (length bytes.now) (view self.old).array (view self.new).array }
+        ensures pages { OnOk result
+            (TellsWritten at (length bytes.now) (view self.old).committed (view self.new).committed) }
+        ensures wrote_main { IsTrue tells → IsErrOf result WriteStop.WoFailed
+            → (view self.new).array ≡ over (view self.old).array at bytes.now }
+        ensures in_part { IsTrue tells → IsErrOf result WriteStop.Failed
+            → SameOutside at (length bytes.now) (view self.old).array (view self.new).array }
         ensures ends { (view self.new).ends ≡ (view self.old).ends }
         ensures same { OnOk result ((view self.new).prepared ≡ (view self.old).prepared) }
         ensures kind { SameKind (view self.old) (view self.new) }
         ensures stands { OnOk result (Stands self.new) }
-        ensures cause { HasCauses (faults self.old) (faults self.new) (copy_faults self.old) (copy_faults self.new) result }
-        ensures moment { moment self.old ≤ moment self.new }
+        ensures cause { HasCauses (faults self.old) (faults self.new) (copy_faults self.old) (copy_faults self.new)
+            result }
         ensures steady { IsTrue tells_stops → Steady self.old → OnOk result (Steady self.new) }
-        ensures leaves { IsTrue tells_stops → Steady self.old → LeaveOnly (moment self.old) (λ list. list ≡ revisions_of (view self.old)) (Leaves self.new) }
-        ensures goes { GoesOn self.old self.new }
-        ensures past { IsTrue tells_stops → Continue (moment self.old) (Leaves self.old) (Leaves self.new) };
+        ensures stops { IsTrue tells_stops → Steady self.old → LeavesSame (moment self.old)
+            (view self.old).history.revisions (Leaves self.old) (Leaves self.new) }
+        ensures goes { GoesOn self.old self.new };
 
     /// Moves the end of a region up to `end`, which is at most its limit. The new bytes read as 0.
     fn raise(&mut self, class: MemClass, end: u64) -> Result<(), WriteStop>
@@ -123,18 +126,23 @@ pub trait Space: Kept {
         requires up { (view self.old).ends class ≤ end }
         requires below { end ≤ ((view self.old).regions class).limit }
         requires ready { IsReady (view self.old) ((view self.old).ends class) (end - (view self.old).ends class) }
-        ensures raised { IsTrue tells → OnOk result (Raised class end (view self.old) (view self.new)) }
-        ensures in_part { IsTrue tells → OnErr result (SameOutside ((view self.old).ends class) (end - (view self.old).ends class) (view self.old).array (view self.new).array) }
-        ensures ends { OnOk result ((view self.new).ends ≡ raised (view self.old).regions (view self.old).ends class end) }
+        ensures raised { IsTrue tells → OnOk result (Wrote ((view self.old).ends class)
+            (new_bytes (view self.old).ends class end) (view self.old) (view self.new)) }
+        ensures pages { OnOk result (TellsWritten ((view self.old).ends class) (end - (view self.old).ends class)
+            (view self.old).committed (view self.new).committed) }
+        ensures in_part { IsTrue tells → OnErr result (SameOutside ((view self.old).ends class)
+            (end - (view self.old).ends class) (view self.old).array (view self.new).array) }
+        ensures ends { OnOk result
+            ((view self.new).ends ≡ raised (view self.old).regions (view self.old).ends class end) }
         ensures same { OnOk result ((view self.new).prepared ≡ (view self.old).prepared) }
         ensures kind { SameKind (view self.old) (view self.new) }
         ensures stands { OnOk result (Stands self.new) }
-        ensures cause { HasCauses (faults self.old) (faults self.new) (copy_faults self.old) (copy_faults self.new) result }
-        ensures moment { moment self.old ≤ moment self.new }
+        ensures cause { HasCauses (faults self.old) (faults self.new) (copy_faults self.old) (copy_faults self.new)
+            result }
         ensures steady { IsTrue tells_stops → Steady self.old → OnOk result (Steady self.new) }
-        ensures leaves { IsTrue tells_stops → Steady self.old → LeaveOnly (moment self.old) (λ list. list ≡ revisions_of (view self.old)) (Leaves self.new) }
-        ensures goes { GoesOn self.old self.new }
-        ensures past { IsTrue tells_stops → Continue (moment self.old) (Leaves self.old) (Leaves self.new) };
+        ensures stops { IsTrue tells_stops → Steady self.old → LeavesSame (moment self.old)
+            (view self.old).history.revisions (Leaves self.old) (Leaves self.new) }
+        ensures goes { GoesOn self.old self.new };
 
     /// Makes room for writes and raises in these ranges, in ascending order of their starts, and for no others.
     fn prepare(&mut self, ranges: &Vec<Extent>) -> Result<(), NoMemory>
@@ -149,9 +157,10 @@ pub trait Space: Kept {
         ensures moment { moment self.new ≡ moment self.old }
         ensures steady { IsTrue tells_stops → Steady self.old → Steady self.new }
         ensures goes { GoesOn self.old self.new }
-        ensures past { IsTrue tells_stops → (m : ℕ) (list : List Stored) → Leaves self.new m list → Leaves self.old m list };
+        ensures past { IsTrue tells_stops → (m : ℕ) (list : List Stored) → Leaves self.new m list
+            → Leaves self.old m list };
 
-    /// Makes all files last as they read.
+    /// Makes all files last as they read. What they read stays, also after a fault.
     fn settle(&mut self) -> Result<(), WriteStop>
         requires stands { Stands self.old }
         requires writable { IsTrue (view self.old).writable }
@@ -161,12 +170,13 @@ pub trait Space: Kept {
         ensures kind { SameKind (view self.old) (view self.new) }
         ensures stands { OnOk result (Stands self.new) }
         ensures rests { OnOk result (Rests self.new) }
-        ensures cause { HasCauses (faults self.old) (faults self.new) (copy_faults self.old) (copy_faults self.new) result }
-        ensures moment { moment self.old ≤ moment self.new }
+        ensures rests_still { Rests self.old → Rests self.new }
+        ensures cause { HasCauses (faults self.old) (faults self.new) (copy_faults self.old) (copy_faults self.new)
+            result }
         ensures steady { IsTrue tells_stops → Steady self.old → OnOk result (Steady self.new) }
-        ensures leaves { IsTrue tells_stops → Steady self.old → LeaveOnly (moment self.old) (λ list. list ≡ revisions_of (view self.old)) (Leaves self.new) }
-        ensures goes { GoesOn self.old self.new }
-        ensures past { IsTrue tells_stops → Continue (moment self.old) (Leaves self.old) (Leaves self.new) };
+        ensures stops { IsTrue tells_stops → Steady self.old → LeavesSame (moment self.old)
+            (view self.old).history.revisions (Leaves self.old) (Leaves self.new) }
+        ensures goes { GoesOn self.old self.new };
 
     fn region(&self, class: MemClass) -> Region
         ensures { result ≡ (view self.now).regions class };
@@ -202,18 +212,20 @@ pub trait Space: Kept {
     fn commit(&mut self, comment: &Comment, secs: i64) -> Result<CommitAnswer, CommitStop>
         requires stands { Stands self.old }
         requires writable { IsTrue (view self.old).writable }
-        ensures answer { IfOk result (λ a. IsCommitted comment.now secs (view self.old) (view self.new) a) }
+        ensures answer { IfOk result (λ a. IsCommitted tells comment.now secs (view self.old) (view self.new) a) }
         ensures no_memory { IsErrOf result CommitStop.NoMemory → view self.new ≡ view self.old }
         ensures kind { SameKind (view self.old) (view self.new) }
         ensures stands { OnOk result (Stands self.new) }
         ensures stands_still { IsErrOf result CommitStop.NoMemory → Stands self.new }
-        ensures cause { CommitCauses (faults self.old) (faults self.new) (copy_faults self.old) (copy_faults self.new) result }
-        ensures moment { moment self.old ≤ moment self.new }
+        ensures cause { CommitCauses (faults self.old) (faults self.new) (copy_faults self.old) (copy_faults self.new)
+            result }
         ensures steady { IsTrue tells_stops → Steady self.old → OnOk result (Steady self.new) }
-        ensures steady_still { IsTrue tells_stops → Steady self.old → IsErrOf result CommitStop.NoMemory → Steady self.new }
-        ensures leaves { IsTrue tells_stops → Steady self.old → LeaveOnly (moment self.old) (λ list. MayBeMade comment.now secs (view self.old) list) (Leaves self.new) }
-        ensures goes { GoesOn self.old self.new }
-        ensures past { IsTrue tells_stops → Continue (moment self.old) (Leaves self.old) (Leaves self.new) };
+        ensures steady_still { IsTrue tells_stops → Steady self.old → IsErrOf result CommitStop.NoMemory
+            → Steady self.new }
+        ensures leaves { IsTrue tells_stops → Steady self.old → LeaveOnly (moment self.old)
+            (λ list. MayBeMade comment.now secs (view self.old) list) (Leaves self.new) }
+        ensures past { IsTrue tells_stops → Continue (moment self.old) (Leaves self.old) (Leaves self.new) }
+        ensures goes { GoesOn self.old self.new };
 
     /// Alike spaces tell the same.
     ghost alike: { (a b : Self) → Self.Alike a b → view a ≡ view b };
@@ -223,6 +235,25 @@ pub trait Space: Kept {
 
     ghost goes_further: { (a b c : Self) → GoesOn a b → GoesOn b c → GoesOn a c };
 
-    /// Each end lies between the start and the limit of its region, and all numbers are of 64 bits.
-    ghost sound: { (a : Self) → AreRegions (view a) };
+    /// What goes on has no count of faults that fell, and time goes forward.
+    ghost goes_counts: { (a b : Self) → GoesOn a b → NoneFell (faults a) (faults b) };
+
+    ghost goes_copy: { (a b : Self) → GoesOn a b → NoneFell (copy_faults a) (copy_faults b) };
+
+    ghost goes_moment: { (a b : Self) → GoesOn a b → moment a ≤ moment b };
+
+    /// What a read leaves stands, rests and is steady as before.
+    ghost alike_stands: { (a b : Self) → Self.Alike a b → Stands a → Stands b };
+
+    ghost alike_rests: { (a b : Self) → Self.Alike a b → Rests a → Rests b };
+
+    ghost alike_steady: { IsTrue tells_stops → (a b : Self) → Self.Alike a b → Steady a → Steady b };
+
+    /// The snapshots since a read began leave just the committed revisions; so, as a space is alike to itself, do those of
+    /// a steady one.
+    ghost alike_stops: { IsTrue tells_stops → (a b : Self) → Self.Alike a b → Steady a
+        → LeavesSame (moment a) (view a).history.revisions (Leaves a) (Leaves b) };
+
+    /// What it tells is sound as long as it stands.
+    ghost sound: { (a : Self) → Stands a → IsSound tells (view a) };
 }

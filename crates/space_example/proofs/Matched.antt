@@ -4,7 +4,7 @@ use Rattle.outside.specs.Array.{Array}
 use Rattle.outside.specs.Blocks.{Bounds}
 use Rattle.outside.specs.Space.{SpaceView, bounds_of}
 use Rattle.block_reader.specs.declared.stop.TreeStop.{TreeStop}
-use Rattle.block_reader.specs.Stops.{refusal_of}
+use Rattle.h5_base.specs.Refusals.{refusal_of}
 use Rattle.super_codec.specs.declared.superblock.Superblock.{Superblock}
 use Rattle.object_model.specs.declared.answer.Code.TheVariants.{Absent}
 use Rattle.object_model.specs.Tree.{Group, Leaf, Empty, Link, Name, same_name, find, walk, ◌>>=◌}

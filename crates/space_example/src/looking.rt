@@ -2,7 +2,7 @@ ghost use Rattle.std.specs.Prelude.{◌≡◌, ◌≤◌, None, IsTrue, IfOk, If
 ghost use Rattle.h5_base.specs.declared.extent.MemClass.TheVariants as class;
 ghost use Rattle.outside.specs.Causes.{Rose};
 ghost use Rattle.outside.specs.Space.{bounds_of};
-ghost use Rattle.block_reader.specs.Stops.{refusal_of};
+ghost use Rattle.h5_base.specs.Refusals.{refusal_of};
 ghost use Rattle.super_codec.specs.declared.superblock.Superblock.{Superblock};
 ghost use Rattle.object_model.specs.Tree.{Group, walk};
 ghost use Rattle.file_model.specs.Holds.{GroupAt, Full, FullLinks, HoldsFull};

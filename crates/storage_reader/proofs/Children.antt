@@ -6,7 +6,7 @@ use Rattle.std.proofs.lemmas.List.{append_assoc, append-nil, drop_more}
 use Rattle.outside.specs.Blocks.{Block}
 use Rattle.node_codec.specs.declared.chunk_node.ChunkKey.{ChunkKey}
 use Rattle.file_model.specs.Chunks.{Chunk, Under, AreChildren, IsFrom, IsBelow}
-use Rattle.file_model.specs.Refusals.{Refusal}
+use Rattle.h5_base.specs.declared.refusal.Refusal.{Refusal}
 use Rattle.file_model.specs.RefusedChunks.{RefusedChunks, AreOffsetsRefused, AreChunksRefused}
 
 -- What was read of the first children: with the others' they are all children's, and as the others are refused, the

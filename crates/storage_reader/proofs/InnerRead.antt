@@ -6,9 +6,9 @@ use Rattle.outside.specs.Blocks.{Block, Bounds}
 use Rattle.h5_base.specs.declared.kinds.BlockKind.TheVariants.{Tree}
 use Rattle.node_codec.specs.declared.chunk_node.ChunkKey.{ChunkKey}
 use Rattle.file_model.specs.Chunks.{Chunk, AreAscending, AreChildren, IsIndex}
-use Rattle.file_model.specs.Refusals.Refusal.{Malformed}
+use Rattle.h5_base.specs.declared.refusal.Refusal.TheVariants.{Malformed}
 use Rattle.file_model.specs.RefusedChunks.{AreOffsetsRefused, AreChunksRefused, IsChunkIndexRefused}
-use Rattle.block_reader.specs.Stops.{refusal_of}
+use Rattle.h5_base.specs.Refusals.{refusal_of}
 use Rattle.block_reader.specs.declared.stop.TreeStop.{TreeStop}
 use Rattle.block_reader.proofs.Stopped.{if_some}
 use Rattle.storage_reader.specs.Ends.{HaveEnds, IsInPlace}

@@ -5,9 +5,9 @@ use Rattle.outside.specs.Blocks.{Block, Bounds}
 use Rattle.h5_base.specs.declared.kinds.BlockKind.TheVariants.{Tree}
 use Rattle.node_codec.specs.declared.chunk_node.ChunkKey.{ChunkKey}
 use Rattle.file_model.specs.Chunks.{Chunk, AreAscending, AreChildren, IsAbove, IsBelow, IsFrom, IsStored, comes_before}
-use Rattle.file_model.specs.Refusals.Refusal.{Malformed}
+use Rattle.h5_base.specs.declared.refusal.Refusal.TheVariants.{Malformed}
 use Rattle.file_model.specs.RefusedChunks.{AreChunksRefused, IsChunkRefused, AboveKey}
-use Rattle.block_reader.specs.Stops.{refusal_of}
+use Rattle.h5_base.specs.Refusals.{refusal_of}
 use Rattle.block_reader.specs.declared.stop.TreeStop.{TreeStop}
 use Rattle.block_reader.proofs.Stopped.{if_some}
 use Rattle.storage_reader.proofs.Children.{AreRead, IsNext, none_read, all_read, child_read, child_refused, offsets_refused}

@@ -8,10 +8,11 @@ use Rattle.node_codec.specs.ChunkNodes.{SpellsChunkNode, chunk_node_len}
 use Rattle.node_codec.specs.declared.chunk_node.ChunkNode.{ChunkNode}
 use Rattle.node_codec.specs.declared.chunk_node.ChunkKey.{ChunkKey}
 use Rattle.file_model.specs.Chunks.{Chunk, AreAscending, AreChildren, IsIndex, IsIndexed, IsNode, IsStored}
-use Rattle.file_model.specs.Refusals.{Refusal, IsBlockRefused}
-use Rattle.file_model.specs.Refusals.Refusal.{Malformed}
+use Rattle.h5_base.specs.declared.refusal.Refusal.{Refusal}
+use Rattle.outside.specs.Blocks.{IsBlockRefused}
+use Rattle.h5_base.specs.declared.refusal.Refusal.TheVariants.{Malformed}
 use Rattle.file_model.specs.RefusedChunks.{AreChunksRefused, IsChunkRefused, IsChunkIndexRefused, NodeBlock, NoNode, InChildren, chunk_level}
-use Rattle.block_reader.specs.Stops.{refusal_of}
+use Rattle.h5_base.specs.Refusals.{refusal_of}
 use Rattle.block_reader.specs.declared.stop.TreeStop.{TreeStop}
 use Rattle.block_reader.proofs.Stopped.{if_some}
 use Rattle.storage_reader.specs.Ends.{HaveEnds}

@@ -5,9 +5,9 @@ use Rattle.outside.specs.Blocks.{Block, Bounds}
 use Rattle.h5_base.specs.declared.kinds.BlockKind.TheVariants.{Raw}
 use Rattle.dtype.specs.Products.{product}
 use Rattle.node_codec.specs.declared.chunk_node.ChunkKey.{ChunkKey}
-use Rattle.file_model.specs.Refusals.{IsBlockRefused}
+use Rattle.outside.specs.Blocks.{IsBlockRefused}
 use Rattle.file_model.specs.RefusedChunks.{IsChunkRefused, ChunkBlock}
-use Rattle.block_reader.specs.Stops.{refusal_of}
+use Rattle.h5_base.specs.Refusals.{refusal_of}
 use Rattle.block_reader.specs.declared.stop.TreeStop.{TreeStop}
 use Rattle.block_reader.proofs.Stopped.{if_some}
 

@@ -14,9 +14,9 @@ use Rattle.header_codec.specs.declared.types.Layout.{Layout}
 use Rattle.header_codec.specs.declared.types.Layout.TheVariants as layout
 use Rattle.file_model.specs.Objects.{DataInfo}
 use Rattle.file_model.specs.Chunks.{Chunk, IsIndexed, IsStoredBy, is_read}
-use Rattle.file_model.specs.Refusals.{IsPlacedRefused}
+use Rattle.outside.specs.Blocks.{IsPlacedRefused}
 use Rattle.file_model.specs.RefusedChunks.{IsChunkIndexRefused, IsStorageRefused, RawBlock, InIndex, chunk_level}
-use Rattle.block_reader.specs.Stops.{refusal_of}
+use Rattle.h5_base.specs.Refusals.{refusal_of}
 use Rattle.block_reader.specs.declared.stop.TreeStop.{TreeStop}
 use Rattle.block_reader.proofs.Stopped.{if_some}
 use Rattle.storage_reader.specs.Forms.{IsForm}

@@ -4,7 +4,7 @@ ghost use Rattle.outside.specs.Blocks.{Block};
 ghost use Rattle.outside.specs.Space.{bounds_of};
 ghost use Rattle.dtype.specs.Products.{product};
 ghost use Rattle.block_space.specs.Blocks.{Keeps, space_of};
-ghost use Rattle.block_reader.specs.Stops.{refusal_of};
+ghost use Rattle.h5_base.specs.Refusals.{refusal_of};
 ghost use Rattle.node_codec.specs.ChunkNodes.{FitsChunkNode};
 ghost use Rattle.file_model.specs.Chunks.{Chunk, AreAscending, AreChildren, IsStored, comes_before};
 ghost use Rattle.file_model.specs.RefusedChunks.{AreChunksRefused, IsChunkRefused};

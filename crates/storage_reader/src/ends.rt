@@ -2,7 +2,7 @@ ghost use Rattle.std.specs.Prelude.{◌≡◌, ◌↔◌, ◌++◌, ◌+◌, ◌
 ghost use Rattle.outside.specs.Blocks.{Block};
 ghost use Rattle.h5_base.specs.declared.kinds.BlockKind.TheVariants.{Tree};
 ghost use Rattle.file_model.specs.Chunks.{Chunk, AreAscending, AreChildren, IsFrom, IsBelow, IsStored, comes_before};
-ghost use Rattle.file_model.specs.Refusals.Refusal.{Malformed};
+ghost use Rattle.h5_base.specs.declared.refusal.Refusal.TheVariants.{Malformed};
 ghost use Rattle.file_model.specs.RefusedChunks.{AreOffsetsRefused};
 ghost use Rattle.storage_reader.specs.Ends.{AreEnds, HaveEnds, IsInPlace};
 

@@ -5,7 +5,7 @@ ghost use Rattle.outside.specs.Blocks.{Block};
 ghost use Rattle.outside.specs.Causes.{Rose};
 ghost use Rattle.outside.specs.Space.{bounds_of};
 ghost use Rattle.block_space.specs.Blocks.{Keeps, space_of};
-ghost use Rattle.block_reader.specs.Stops.{refusal_of};
+ghost use Rattle.h5_base.specs.Refusals.{refusal_of};
 ghost use Rattle.node_codec.specs.ChunkNodes.{FitsChunkNode, SpellsChunkNode, chunk_node_len};
 ghost use Rattle.file_model.specs.Chunks.{AreChildren, Chunk, IsIndex, IsIndexed};
 ghost use Rattle.file_model.specs.RefusedChunks.{AreChunksRefused, IsChunkIndexRefused, IsChunkNodeRefused};

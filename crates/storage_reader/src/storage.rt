@@ -9,9 +9,9 @@ ghost use Rattle.dtype.specs.Types.{size_of};
 ghost use Rattle.header_codec.specs.Layouts.{IsOfShape};
 ghost use Rattle.header_codec.specs.Written.{IsLayout};
 ghost use Rattle.block_space.specs.Blocks.{Keeps, space_of};
-ghost use Rattle.block_reader.specs.Stops.{refusal_of};
+ghost use Rattle.h5_base.specs.Refusals.{refusal_of};
 ghost use Rattle.file_model.specs.Objects.{DataInfo};
-ghost use Rattle.file_model.specs.Refusals.{IsPlacedRefused};
+ghost use Rattle.outside.specs.Blocks.{IsPlacedRefused};
 ghost use Rattle.file_model.specs.Chunks.{Chunk, IsStoredBy};
 ghost use Rattle.file_model.specs.RefusedChunks.{IsStorageRefused};
 

@@ -1,5 +1,5 @@
 use Rattle.std.proofs.Common.{◌≡◌, length, arith}
-use Rattle.block_reader.specs.Stops.{refusal_of}
+use Rattle.h5_base.specs.Refusals.{refusal_of}
 use Rattle.group_reader.specs.Links.{found_of}
 use Rattle.group_reader.proofs.EntryLemmas.{one_entry, disordered, after_added, add_entry}
 use Rattle.group_reader.proofs.entries.push_entries.Goals as goal

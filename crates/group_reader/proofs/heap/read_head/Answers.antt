@@ -4,9 +4,9 @@ use Rattle.h5_base.specs.declared.kinds.BlockKind.TheVariants as kind
 use Rattle.node_codec.specs.Heap.{SpellsHeap}
 use Rattle.block_space.specs.Blocks.{space_of}
 use Rattle.file_model.specs.Groups.{Ks}
-use Rattle.file_model.specs.Refusals.{IsBlockRefused}
+use Rattle.outside.specs.Blocks.{IsBlockRefused}
 use Rattle.file_model.specs.RefusedGroups.{IsTableRefused, HeapBlock, NoHeap, LargeHeap, heap_block}
-use Rattle.block_reader.specs.Stops.{refusal_of}
+use Rattle.h5_base.specs.Refusals.{refusal_of}
 use Rattle.block_reader.proofs.Stopped.{if_some}
 use Rattle.group_reader.specs.Reading.{array_of}
 use Rattle.group_reader.proofs.heap.read_head.Goals as goal

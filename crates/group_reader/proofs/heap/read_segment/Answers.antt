@@ -2,7 +2,7 @@ use Rattle.std.proofs.Common.{◌≡◌, IfOk, sym, ◌∙◌, ap, subst}
 use Rattle.outside.specs.Array.{bytes_of}
 use Rattle.outside.specs.Blocks.{placed}
 use Rattle.block_space.specs.Blocks.{space_of}
-use Rattle.block_reader.specs.Stops.{refusal_of}
+use Rattle.h5_base.specs.Refusals.{refusal_of}
 use Rattle.block_reader.proofs.Stopped.{if_err, then_kept}
 use Rattle.group_reader.specs.Reading.{array_of}
 use Rattle.group_reader.proofs.NodeLemmas.{none_refused}

@@ -4,7 +4,7 @@ use Rattle.outside.specs.Space.{bounds_of}
 use Rattle.outside.specs.Blocks.{Block}
 use Rattle.block_space.specs.Blocks.{Keeps, space_of}
 use Rattle.file_model.specs.RefusedGroups.{IsKeyRefused}
-use Rattle.block_reader.specs.Stops.{refusal_of}
+use Rattle.h5_base.specs.Refusals.{refusal_of}
 use Rattle.group_reader.proofs.EntryLemmas.{slice_is, middle_is}
 use Rattle.group_reader.proofs.ChildSteps.{UnderIn, RefusedIn, order_none, order_child, add_none, add_all, add_child, child_stops, key_stops, cut_at, cut_on, told_of}
 use Rattle.group_reader.proofs.IndexLemmas.{under_zero, under_zero_refused, under_more, under_more_refused, head_index, other_level, index_found, index_refused}

@@ -1,7 +1,7 @@
 use Rattle.std.proofs.Common.{Err, [], ◌∷◌, ◌++◌, ap, ◌∙◌, arith}
 use Rattle.outside.specs.Space.{bounds_of}
 use Rattle.block_space.specs.Blocks.{space_of}
-use Rattle.block_reader.specs.Stops.{refusal_of}
+use Rattle.h5_base.specs.Refusals.{refusal_of}
 use Rattle.block_reader.proofs.Stopped.{on_ok}
 use Rattle.group_reader.specs.Reading.{array_of, ks_of}
 use Rattle.group_reader.proofs.LeafLemmas.{ordered_ok, leaf_block, no_leaf, leaf_found, leaf_refused}

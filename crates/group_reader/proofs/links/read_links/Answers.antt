@@ -3,7 +3,7 @@ use Rattle.outside.specs.Space.{bounds_of}
 use Rattle.block_space.specs.Blocks.{space_of}
 use Rattle.file_model.specs.Groups.{Ks, HasLinks}
 use Rattle.file_model.specs.RefusedGroups.{root_level, IsIndexRefused, IsTableRefused}
-use Rattle.block_reader.specs.Stops.{refusal_of}
+use Rattle.h5_base.specs.Refusals.{refusal_of}
 use Rattle.block_reader.proofs.Stopped.{if_some, on_ok}
 use Rattle.group_reader.specs.Links.{links_of}
 use Rattle.group_reader.specs.Reading.{array_of, ks_of, Takes, Refuses, AreIndexed}

@@ -1,7 +1,7 @@
 use Rattle.std.proofs.Common.{Err, ap, ◌∙◌, arith}
 use Rattle.outside.specs.Space.{bounds_of}
 use Rattle.block_space.specs.Blocks.{space_of}
-use Rattle.block_reader.specs.Stops.{refusal_of}
+use Rattle.h5_base.specs.Refusals.{refusal_of}
 use Rattle.group_reader.specs.Reading.{array_of}
 use Rattle.group_reader.proofs.NodeLemmas.{block_head, no_head, node_read, node_taken}
 use Rattle.group_reader.proofs.node.read_node.Goals as goal
