@@ -1,5 +1,5 @@
 -- A catalogue before and after one more block is in it.
-use Rattle.std.proofs.Common.{◌≡◌, ℕ, ◌+◌, ◌<◌, inl, inr, List, [], ◌∷◌, ◌++◌, true, false, sym, ◌∙◌, ap, subst, refl, arith, length-append, if◌then◌else◌}
+use Rattle.std.proofs.Common.{◌≡◌, ◌↔◌, IsTrue, nat_eq, ℕ, ◌+◌, ◌<◌, inl, inr, List, [], ◌∷◌, ◌++◌, true, false, sym, ◌∙◌, ap, subst, refl, arith, length-append, if◌then◌else◌}
 use Rattle.std.specs.declared.option.Option.{Option}
 use Rattle.std.specs.declared.option.Option.TheVariants.{Some, None}
 use Rattle.std.specs.Option.{IsSome, is_some}
@@ -8,7 +8,7 @@ use Rattle.std.specs.Ordering.{nat_cmp, is_eq}
 use Rattle.std.specs.Cmp.{nat_cmp_is}
 use Rattle.std.specs.declared.cmp.Ordering.TheVariants.{Less, Greater}
 use Rattle.std.specs.BTreeMap.{BTreeMap, get, Updates, IsUnchanged, btree_map_len}
-use Rattle.std.proofs.lemmas.Bool.{cases_lt, cases_eq}
+use Rattle.std.proofs.lemmas.Bool.{cases_lt, cases_eq, eqb-true, eq-eqb}
 use Rattle.std.proofs.lemmas.List.Elements.{Contains-push, Contains-push_cases, Contains-append_left}
 use Rattle.outside.specs.Blocks.{Block, BeginsOne, IsApart}
 use Rattle.block_space.specs.Catalogue.{Lists}
@@ -78,3 +78,15 @@ module _ (m : BTreeMap ℕ ℕ) (met : List Block) (lists : Lists m met) where
           ];
           apart = all_apart_push met (record { start = start; len = len }) lists.apart apart;
         }
+
+-- whether a block of this length begins at an address, by the entry that is there
+pub kept_there : (m : BTreeMap ℕ ℕ) (met : List Block) → Lists m met → (start len kept : ℕ) → get nat_cmp m start ≡ Some kept
+    → IsTrue (nat_eq kept len) ↔ Contains met (record { start = start; len = len })
+kept_there m met lists start len kept there = (
+  λ same. (lists.entries start len).0 (there ∙ ap Some (eqb-true kept len same)),
+  λ has. let e = (lists.entries start len).1 has in let is : kept ≡ len = cc in eq-eqb kept len is,
+)
+
+pub none_there : (m : BTreeMap ℕ ℕ) (met : List Block) → Lists m met → (start len : ℕ) → get nat_cmp m start ≡ None
+    → IsTrue false ↔ Contains met (record { start = start; len = len })
+none_there m met lists start len none = (λ no. absurd cc, λ has. let is = (lists.entries start len).1 has in absurd cc)

@@ -3,3 +3,4 @@ pub mod Apart
 pub mod Listed
 pub mod SixClasses
 pub mod Joined
+pub mod Stopped

@@ -1,46 +1,36 @@
 ghost use Rattle.std.specs.Prelude.{◌≡◌, ◌+◌, ◌^◌, ◌<◌, ◌≤◌, ◌++◌, ℕ, [], ◌∷◌, List, Option, length, IsTrue, IfErr};
-ghost use Rattle.std.specs.Prelude.{IfSome, OnOk, OnErr, IsErrOf};
+ghost use Rattle.std.specs.Prelude.{◌↔◌, IfSome, OnOk, OnErr, IsErrOf};
+ghost use Rattle.std.specs.List.{Contains};
+ghost use Rattle.h5_base.specs.Refusals.{refusal_of};
 ghost use Rattle.outside.specs.Array.{bytes_of};
-ghost use Rattle.outside.specs.Blocks.{Block, IsFault};
-ghost use Rattle.outside.specs.Causes.{HasCause};
-ghost use Rattle.outside.specs.Space.{Continue, LeaveOnly, bounds_of, revisions_of};
-ghost use Rattle.block_space.specs.Blocks.{Keeps, MayJoin, space_of, fault_of};
+ghost use Rattle.outside.specs.Blocks.{Block, IsBlockRefused, IsInside};
+ghost use Rattle.outside.specs.Causes.{OneRose};
+ghost use Rattle.outside.specs.Space.{bounds_of};
+ghost use Rattle.block_space.specs.Blocks.{AreListed, Keeps, MayJoin, space_of};
+ghost use Rattle.block_space.specs.Catalogue.{Lists};
 
 use crate::neighbours::shared_address;
 use crate::regions::lies_inside;
+use h5_base::{BlockKind, Refusal, Stop};
 use outside::{Failed, Space};
 use std::alloc::Global;
 use std::collections::BTreeMap;
-use thiserror::Error;
+use std::mem;
 
 /// So many blocks a file has at most.
 const MOST_BLOCKS: usize = 1_048_576;
 
-/// Why a block isn't taken into the catalogue.
-#[derive(Clone, Copy, Debug, PartialEq, Eq, Error)]
-pub enum AdoptStop {
-    /// A block of the catalogue begins at the same address.
-    #[error("a block at {at} is linked twice")]
-    LinkedTwice { at: u64 },
-    /// It shares addresses with blocks of the catalogue, the first of them at `at`.
-    #[error("blocks overlap at {at}")]
-    Overlap { at: u64 },
-    /// It doesn't lie whole in a region, below its end.
-    #[error("a block at {at} lies outside the file")]
-    Outside { at: u64 },
-    /// The catalogue has as many blocks as a file may have.
-    #[error("too many blocks")]
-    TooMany,
-    /// There is no memory for one more entry of the catalogue.
-    #[error("out of memory")]
-    NoMemory,
-}
-
 /// A space with a catalogue of the blocks that were met in it.
 #[derive(Drop)]
 pub struct Blocks<V: Space> {
-    space: V,
+    pub(crate) space: V,
     catalogue: BTreeMap<u64, u64>,
+}
+
+/// A catalogue that was set aside, while another one is kept.
+#[derive(Drop)]
+pub struct Catalogue {
+    entries: BTreeMap<u64, u64>,
 }
 
 impl<V: Space> Blocks<V> {
@@ -56,51 +46,73 @@ impl<V: Space> Blocks<V> {
     }
 
     // The first reason for which a block of at least one byte isn't taken in, want of memory aside.
-    fn judge(&self, start: u64, len: u64) -> Result<(), AdoptStop>
+    fn judge(&self, start: u64, len: u64, kind: BlockKind) -> Result<(), Stop>
         requires { 0 < len }
         ensures free { OnOk result ((met : List Block) → Keeps V.view self.now met
             → MayJoin V.view self.now met (record { start = start; len = len })) }
-        ensures why { IfErr result (λ stop. (met : List Block) (own : Option (List ℕ)) → Keeps V.view self.now met
-            → IfSome (fault_of stop) (IsFault (bounds_of (V.view (space_of self.now)) own) met
-            (record { start = start; len = len }))) }
-        ensures at { (at : ℕ) → IsErrOf result (AdoptStop.Outside at) → at ≡ start }
-        ensures memory { ¬ IsErrOf result AdoptStop.NoMemory }
+        ensures inside { OnOk result ((own : Option (List ℕ))
+            → IsInside (bounds_of (V.view (space_of self.now)) own) (record { start = start; len = len })) }
+        ensures refused { IfErr result (λ stop. (met : List Block) (own : Option (List ℕ)) → Keeps V.view self.now met
+            → IfSome (refusal_of stop) (IsBlockRefused (bounds_of (V.view (space_of self.now)) own) met
+            (record { start = start; len = len }) kind)) }
+        ensures no_fault { ¬ IsErrOf result Stop.Failed }
+        ensures memory { ¬ IsErrOf result Stop.NoMemory }
     {
-        if self.catalogue.len() >= MOST_BLOCKS {
-            return Err(AdoptStop::TooMany);
-        }
         if self.catalogue.contains_key(&start) {
-            return Err(AdoptStop::LinkedTwice { at: start });
+            return Err(Stop::Refused {
+                why: Refusal::LinkedTwice { at: start },
+            });
         }
         if let Some(at) = shared_address(&self.catalogue, start, len) {
-            return Err(AdoptStop::Overlap { at });
+            return Err(Stop::Refused {
+                why: Refusal::Overlap { at },
+            });
         }
-        if lies_inside(&self.space, start, len) {
-            Ok(())
-        } else {
-            Err(AdoptStop::Outside { at: start })
+        if !lies_inside(&self.space, start, len) {
+            return Err(Stop::malformed(start, kind));
         }
+        if self.catalogue.len() >= MOST_BLOCKS {
+            return Err(Stop::Refused {
+                why: Refusal::TooMany,
+            });
+        }
+        Ok(())
     }
 
     /// Takes a block of at least one byte into the catalogue. After an error the catalogue is as it was. The error is
-    /// the first of `TooMany`, `LinkedTwice`, `Overlap`, `Outside` and `NoMemory` that applies.
-    pub fn adopt(&mut self, start: u64, len: u64) -> Result<(), AdoptStop>
-        requires { 0 < len }
-        ensures ok { OnOk result ((met : List Block) → Keeps V.view self.old met
+    /// the first that applies: a block that begins there is in the catalogue (`LinkedTwice`), one shares an address with
+    /// it (`Overlap`), it passes its region's end (`Malformed` as its kind), the catalogue has as many blocks as a file
+    /// may have (`TooMany`), or want of memory.
+    pub fn adopt(&mut self, start: u64, len: u64, kind: BlockKind) -> Result<(), Stop>
+        requires stands { V.Stands (space_of self.old) }
+        requires some { 0 < len }
+        ensures found { OnOk result ((met : List Block) → Keeps V.view self.old met
             → Keeps V.view self.new (met ++ record { start = start; len = len } ∷ [])) }
+        ensures fits { OnOk result (start + len < 2 ^ 64) }
         ensures same { OnErr result ((met : List Block) → Keeps V.view self.old met → Keeps V.view self.new met) }
-        ensures why { IfErr result (λ stop. (met : List Block) (own : Option (List ℕ)) → Keeps V.view self.old met
-            → IfSome (fault_of stop) (IsFault (bounds_of (V.view (space_of self.old)) own) met
-            (record { start = start; len = len }))) }
-        ensures at { (at : ℕ) → IsErrOf result (AdoptStop.Outside at) → at ≡ start }
-        ensures memory { IsErrOf result AdoptStop.NoMemory → (met : List Block) → Keeps V.view self.old met
+        ensures refused { IfErr result (λ stop. (met : List Block) (own : Option (List ℕ)) → Keeps V.view self.old met
+            → IfSome (refusal_of stop) (IsBlockRefused (bounds_of (V.view (space_of self.old)) own) met
+            (record { start = start; len = len }) kind)) }
+        ensures no_fault { ¬ IsErrOf result Stop.Failed }
+        ensures memory { IsErrOf result Stop.NoMemory → (met : List Block) → Keeps V.view self.old met
             → MayJoin V.view self.old met (record { start = start; len = len }) }
         ensures space { space_of self.new ≡ space_of self.old }
     {
-        self.judge(start, len)?;
+        self.judge(start, len, kind)?;
         match self.catalogue.insert(start, len) {
             Ok(_) => Ok(()),
-            Err(_) => Err(AdoptStop::NoMemory),
+            Err(_) => Err(Stop::NoMemory),
+        }
+    }
+
+    /// Whether a block of this length that begins there is in the catalogue.
+    pub fn holds(&self, start: u64, len: u64) -> bool
+        ensures { (met : List Block) → Keeps V.view self.now met
+            → IsTrue result ↔ Contains met (record { start = start; len = len }) }
+    {
+        match self.catalogue.get(&start) {
+            Some(kept) => *kept == len,
+            None => false,
         }
     }
 
@@ -112,20 +124,32 @@ impl<V: Space> Blocks<V> {
             (out.new ≡ bytes_of (V.view (space_of self.old)).array at (length out.old)) }
         ensures kept { (met : List Block) → Keeps V.view self.old met → Keeps V.view self.new met }
         ensures alike { V.Alike (space_of self.old) (space_of self.new) }
-        ensures stands { OnOk result (V.Stands (space_of self.new)) }
-        ensures cause { HasCause (V.faults (space_of self.old)) (V.faults (space_of self.new)) result }
-        ensures copy { V.copy_faults (space_of self.old) ≤ V.copy_faults (space_of self.new) }
-        ensures rests { OnOk result (V.Rests (space_of self.old) → V.Rests (space_of self.new)) }
-        ensures moment { V.moment (space_of self.old) ≤ V.moment (space_of self.new) }
-        ensures steady { IsTrue V.tells_stops → V.Steady (space_of self.old)
-            → OnOk result (V.Steady (space_of self.new)) }
-        ensures leaves { IsTrue V.tells_stops → V.Steady (space_of self.old)
-            → LeaveOnly (V.moment (space_of self.old)) (λ list. list ≡ revisions_of (V.view (space_of self.old)))
-            (V.Leaves (space_of self.new)) }
-        ensures past { IsTrue V.tells_stops → Continue (V.moment (space_of self.old)) (V.Leaves (space_of self.old))
-            (V.Leaves (space_of self.new)) }
+        ensures failed { OnErr result (OneRose (V.faults (space_of self.old)) (V.faults (space_of self.new))) }
     {
         self.space.read(at, out)
+    }
+
+    /// Sets the catalogue aside: from now on one without blocks is kept. So what was met before is read again as what is
+    /// met for the first time.
+    pub fn set_aside(&mut self, alloc: Global) -> Catalogue
+        ensures empty { Keeps V.view self.new [] }
+        ensures kept { (met : List Block) → Keeps V.view self.old met
+            → AreListed (V.view (space_of self.old)) result.entries met }
+        ensures space { space_of self.new ≡ space_of self.old }
+    {
+        Catalogue {
+            entries: mem::replace(&mut self.catalogue, BTreeMap::new(alloc)),
+        }
+    }
+
+    /// Keeps a catalogue again that was set aside, in place of the one that was kept meanwhile.
+    pub fn put_back(&mut self, kept: Catalogue)
+        ensures kept { (met : List Block) → AreListed (V.view (space_of self.old)) kept.entries met
+            → Keeps V.view self.new met }
+        ensures space { space_of self.new ≡ space_of self.old }
+    {
+        let Catalogue { entries } = kept;
+        self.catalogue = entries;
     }
 
     /// The space.
