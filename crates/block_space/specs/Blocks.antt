@@ -5,6 +5,7 @@ use Rattle.std.specs.BTreeMap.{BTreeMap}
 use Rattle.outside.specs.Blocks.{Block, BeginsOne, IsApart, IsInside, AllInside, most_blocks}
 use Rattle.outside.specs.Space.{SpaceView, bounds_of}
 use Rattle.block_space.specs.declared.blocks.Blocks.{Blocks}
+use Rattle.block_space.specs.declared.blocks.Catalogue.{Catalogue}
 use Rattle.block_space.specs.Catalogue.{Lists}
 
 -- the space whose blocks they are
@@ -21,6 +22,10 @@ pub record AreListed (v : SpaceView) (entries : BTreeMap ℕ ℕ) (met : List Bl
 -- the catalogue of a space has just these blocks
 abbrev pub Keeps : {V : Type 0} → (V → SpaceView) → Blocks V → List Block → Type 0
 Keeps view blocks met = AreListed (view blocks.space) blocks.catalogue met
+
+-- a catalogue that was set aside has just these blocks
+abbrev pub IsSetAside : SpaceView → Catalogue → List Block → Type 0
+IsSetAside v kept met = AreListed v kept.entries met
 
 -- a block may be taken into the catalogue
 pub record MayJoin {V : Type 0} (view : V → SpaceView) (blocks : Blocks V) (met : List Block) (x : Block) : Type 0 where

@@ -6,8 +6,7 @@ ghost use Rattle.outside.specs.Array.{bytes_of};
 ghost use Rattle.outside.specs.Blocks.{Block, IsBlockRefused, IsInside};
 ghost use Rattle.outside.specs.Causes.{OneRose};
 ghost use Rattle.outside.specs.Space.{bounds_of};
-ghost use Rattle.block_space.specs.Blocks.{AreListed, Keeps, MayJoin, space_of};
-ghost use Rattle.block_space.specs.Catalogue.{Lists};
+ghost use Rattle.block_space.specs.Blocks.{IsSetAside, Keeps, MayJoin, space_of};
 
 use crate::neighbours::shared_address;
 use crate::regions::lies_inside;
@@ -23,7 +22,7 @@ const MOST_BLOCKS: usize = 1_048_576;
 /// A space with a catalogue of the blocks that were met in it.
 #[derive(Drop)]
 pub struct Blocks<V: Space> {
-    pub(crate) space: V,
+    space: V,
     catalogue: BTreeMap<u64, u64>,
 }
 
@@ -134,7 +133,7 @@ impl<V: Space> Blocks<V> {
     pub fn set_aside(&mut self, alloc: Global) -> Catalogue
         ensures empty { Keeps V.view self.new [] }
         ensures kept { (met : List Block) → Keeps V.view self.old met
-            → AreListed (V.view (space_of self.old)) result.entries met }
+            → IsSetAside (V.view (space_of self.old)) result met }
         ensures space { space_of self.new ≡ space_of self.old }
     {
         Catalogue {
@@ -144,7 +143,7 @@ impl<V: Space> Blocks<V> {
 
     /// Keeps a catalogue again that was set aside, in place of the one that was kept meanwhile.
     pub fn put_back(&mut self, kept: Catalogue)
-        ensures kept { (met : List Block) → AreListed (V.view (space_of self.old)) kept.entries met
+        ensures kept { (met : List Block) → IsSetAside (V.view (space_of self.old)) kept met
             → Keeps V.view self.new met }
         ensures space { space_of self.new ≡ space_of self.old }
     {

@@ -12,6 +12,7 @@ use Rattle.node_codec.specs.declared.snod.SnodEntry.{SnodEntry}
 use Rattle.node_codec.specs.declared.group_node.GroupNode.{GroupNode}
 use Rattle.node_codec.specs.declared.heap.HeapHead.{HeapHead}
 use Rattle.object_model.specs.Tree.{Name, name_lt, AreOrdered}
+use Rattle.super_codec.specs.declared.superblock.KValues.{KValues}
 use Rattle.outside.specs.Blocks.{Block, placed}
 
 -- The text stands in the segment at this offset, ended by a NUL.
@@ -61,11 +62,9 @@ AreChildren segment Child (k ∷ l ∷ ks) (c ∷ cs) fs bs =
     × HasText segment l high × Child c here own × AreBetween low high here
     × AreChildren segment Child (l ∷ ks) cs later more × (fs ≡ here ++ later) × (bs ≡ own ++ more)
 
--- the K values of a superblock
-pub record Ks : Type 0 where
-  pub leaf : ℕ
-  pub internal : ℕ
-  pub chunk : ℕ
+-- the K values of a file
+abbrev pub Ks : Type 0
+Ks = KValues
 
 pub record IsLeaf (b : Array) (ks : Ks) (segment : List ℕ) (at : ℕ) (fs : List Found) (bs : List Block) : Type 0 where
   pub entries : List SnodEntry

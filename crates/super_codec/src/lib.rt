@@ -6,5 +6,5 @@ mod superblock;
 mod writing;
 
 pub use reading::read_super;
-pub use superblock::{RootEntry, SuperStop, Superblock};
+pub use superblock::{KValues, RootEntry, SuperStop, Superblock};
 pub use writing::write_super;

@@ -1,3 +1,5 @@
+ghost use Rattle.std.specs.Prelude.{◌≡◌};
+
 use h5_base::What;
 use thiserror::Error;
 
@@ -22,6 +24,30 @@ pub struct Superblock {
     /// The address of the driver information block.
     pub driver_at: u64,
     pub root: RootEntry,
+}
+
+/// The K values of a file: half the room of its nodes (II.A).
+#[derive(Clone, Copy, Debug, PartialEq, Eq)]
+pub struct KValues {
+    /// Half the entries that a symbol table node has room for.
+    pub leaf: u16,
+    /// Half the children that a node of a group's B-tree has room for.
+    pub internal: u16,
+    /// Half the children that a node of a chunk B-tree has room for.
+    pub chunk: u16,
+}
+
+impl Superblock {
+    /// The K values of its file.
+    pub fn k_values(&self) -> KValues
+        ensures { result ≡ record { leaf = self.now.leaf_k; internal = self.now.internal_k; chunk = self.now.chunk_k } }
+    {
+        KValues {
+            leaf: self.leaf_k,
+            internal: self.internal_k,
+            chunk: self.chunk_k,
+        }
+    }
 }
 
 /// The symbol table entry of the root group, without its link name offset (III.C).
