@@ -1,8 +1,12 @@
 -- What a catalogue of the blocks of a file holds, and when it takes a further block.
 -- Cited by `Blocks`, and by whatever reads a file through it.
-use Rattle.std.specs.Prelude.{ℕ, ◌<◌, ◌≤◌, List, length, Option}
+use Rattle.std.specs.Prelude.{ℕ, ◌<◌, ◌≤◌, ◌++◌, List, length, Option, IfSome}
 use Rattle.std.specs.BTreeMap.{BTreeMap}
-use Rattle.outside.specs.Blocks.{Block, BeginsOne, IsApart, IsInside, AllInside, most_blocks}
+use Rattle.h5_base.specs.declared.refusal.Refusal.{Refusal}
+use Rattle.h5_base.specs.declared.refusal.Stop.{Stop}
+use Rattle.h5_base.specs.Refusals.{refusal_of}
+use Rattle.outside.specs.Array.{Array}
+use Rattle.outside.specs.Blocks.{Block, Bounds, BeginsOne, IsApart, IsInside, AllInside, most_blocks}
 use Rattle.outside.specs.Space.{SpaceView, bounds_of}
 use Rattle.block_space.specs.declared.blocks.Blocks.{Blocks}
 use Rattle.block_space.specs.declared.blocks.Catalogue.{Catalogue}
@@ -22,6 +26,21 @@ pub record AreListed (v : SpaceView) (entries : BTreeMap ℕ ℕ) (met : List Bl
 -- the catalogue of a space has just these blocks
 abbrev pub Keeps : {V : Type 0} → (V → SpaceView) → Blocks V → List Block → Type 0
 Keeps view blocks met = AreListed (view blocks.space) blocks.catalogue met
+
+-- the bytes of the space
+abbrev pub array_of : {V : Type 0} → (V → SpaceView) → Blocks V → Array
+array_of view blocks = (view blocks.space).array
+
+-- The blocks of a part were taken into the catalogue, after those that were met before.
+abbrev pub Takes : {V : Type 0} → (V → SpaceView) → (old new : Blocks V) → (List Block → Type 0) → Type 0
+Takes view old new Part = (met : List Block) → Keeps view old met → (bs : List Block) × Part bs
+    × Keeps view new (met ++ bs)
+
+-- A stop is one of these refusals of a file, after the blocks that were met before, or none of a file.
+abbrev pub Refuses : {V : Type 0} → (V → SpaceView) → Blocks V → (Bounds → List Block → Refusal → Type 0) → Stop
+    → Type 0
+Refuses view old IsRefused stop = (met : List Block) (own : Option (List ℕ)) → Keeps view old met
+    → IfSome (refusal_of stop) (IsRefused (bounds_of (view old.space) own) met)
 
 -- a catalogue that was set aside has just these blocks
 abbrev pub IsSetAside : SpaceView → Catalogue → List Block → Type 0

@@ -118,14 +118,14 @@ pub record StaysGiven (asked : List Extent) (old new : SpaceView) : Type 0 where
 
 -- Each fault comes only where one of its own counts rose.
 pub record HasCauses {T : Type 0} (before now copy_before copy_now : Counts) (result : Result T WriteStop) : Type 0
-    where
-  pub failed : IsErrOf result stop.Failed → OneRose before now
-  pub copy_failed : IsErrOf result stop.WoFailed → OneRose copy_before copy_now
+  where
+    pub failed : IsErrOf result stop.Failed → OneRose before now
+    pub copy_failed : IsErrOf result stop.WoFailed → OneRose copy_before copy_now
 
 pub record CommitCauses {T : Type 0} (before now copy_before copy_now : Counts) (result : Result T CommitStop) : Type 0
-    where
-  pub failed : IsErrOf result commit_stop.Failed → OneRose before now
-  pub copy_failed : IsErrOf result commit_stop.WoFailed → OneRose copy_before copy_now
+  where
+    pub failed : IsErrOf result commit_stop.Failed → OneRose before now
+    pub copy_failed : IsErrOf result commit_stop.WoFailed → OneRose copy_before copy_now
 
 -- ---- commits
 
