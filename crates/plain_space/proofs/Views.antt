@@ -4,7 +4,7 @@ use Rattle.h5_base.specs.declared.extent.Extent.{Extent}
 use Rattle.h5_base.specs.declared.extent.MemClass.{MemClass}
 use Rattle.outside.specs.Array.{Array, array_of, over, SameOutside}
 use Rattle.outside.specs.Files.{written, resized}
-use Rattle.outside.specs.Space.{Wrote, Raised}
+use Rattle.outside.specs.Space.{Wrote, new_bytes}
 use Rattle.outside.specs.Store.{View}
 use Rattle.plain_space.specs.File.{array_in, file_in, seen, view_of}
 use Rattle.std.proofs.lemmas.List.{length-replicate}
@@ -26,33 +26,29 @@ wrote tells v w id end at prepared bytes told names file low = record {
       ∙ ap (λ (l : List ℕ). array_of (seen l)) (file_after v w id (written at bytes (file_in v id)) names file)
       ∙ seen-written (2 ^ 48) at bytes (file_in v id) low
       ∙ ap (λ a. over a at bytes) (sym (array_told tells (file_in v id) told));
-  ends = refl;
-  prepared = refl;
-  committed = refl;
+  history = refl;
 }
 
-pub raised_to : (tells : Bool) (v w : View) (id old end : ℕ) (prepared : List Extent) (class : MemClass) → IsTrue tells → w.names ≡ v.names
-    → w.files (v.names id) ≡ resized end (v.files (v.names id)) → old ≡ length (seen (file_in v id)) → old < end → end ≤ 2 ^ 48
-    → Raised class end (view_of tells v id old prepared) (view_of tells w id end prepared)
+pub raised_to : (tells : Bool) (v w : View) (id old end : ℕ) (prepared : List Extent) (class : MemClass) → IsTrue tells
+    → w.names ≡ v.names
+    → w.files (v.names id) ≡ resized end (v.files (v.names id)) → old ≡ length (seen (file_in v id)) → old < end
+    → end ≤ 2 ^ 48
+    → Wrote old (new_bytes (λ c. old) class end) (view_of tells v id old prepared) (view_of tells w id end prepared)
 raised_to tells v w id old end prepared class told names file size up low = record {
   array = array_told tells (file_in w id) told
       ∙ ap (λ (l : List ℕ). array_of (seen l)) (file_after v w id (resized end (file_in v id)) names file)
       ∙ seen-longer (2 ^ 48) old end (file_in v id) size up low
       ∙ ap (λ a. over a old (replicate (end - old) 0)) (sym (array_told tells (file_in v id) told));
-  ends = refl;
-  prepared = refl;
-  committed = refl;
+  history = refl;
 }
 
 -- a raise to the end as it is
 pub raised_nowhere : (tells : Bool) (v : View) (id old end : ℕ) (prepared : List Extent) (class : MemClass) → end ≡ old
-    → Raised class end (view_of tells v id old prepared) (view_of tells v id old prepared)
+    → Wrote old (new_bytes (λ c. old) class end) (view_of tells v id old prepared) (view_of tells v id old prepared)
 raised_nowhere tells v id old end prepared class same = record {
   array = over-unique (array_in tells (file_in v id)) (array_in tells (file_in v id)) old (replicate (end - old) 0)
       (λ k lt. absurd (omega (arith, lt, same, length-replicate {A = ℕ} (end - old) 0))) (λ k h. refl);
-  ends = λ k class. sym same k;
-  prepared = refl;
-  committed = refl;
+  history = refl;
 }
 
 -- the arrays that are told agree outside a range where those of the files do

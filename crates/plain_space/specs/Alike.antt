@@ -1,13 +1,14 @@
 -- When one space over a file came from another by calls that change nothing, and that alike spaces tell the same.
 -- Cited by `PlainSpace`.
-use Rattle.std.specs.Prelude.{◌≡◌, ℕ, ◌^◌, ◌≤◌, Bool, true, false, IsTrue, List, Some}
-use Rattle.std.proofs.Common.{refl, sym, ◌∙◌, inl, ap, arith}
+use Rattle.std.specs.Prelude.{◌≡◌, ℕ, ◌^◌, ◌<◌, ◌≤◌, Bool, true, false, IsTrue, List, Some, length}
+use Rattle.std.proofs.Common.{refl, sym, ◌∙◌, inl, ap, subst, arith}
 use Rattle.h5_base.specs.declared.extent.Extent.{Extent}
+use Rattle.std.proofs.lemmas.Option.{none-some}
 use Rattle.outside.specs.Files.{Files, Snapshot}
 use Rattle.outside.specs.Store.{View, Goes}
-use Rattle.outside.specs.Space.{AreRegions}
+use Rattle.outside.specs.Space.{IsSound}
 use Rattle.outside.proofs.Goes.{goes_nowhere, goes_on, over_on}
-use Rattle.plain_space.specs.File.{array_in, file_in, view_of, Looks}
+use Rattle.plain_space.specs.File.{array_in, file_in, seen, view_of, Looks, IsOpen, RestsIn}
 use Rattle.plain_space.specs.Plain.{id_of, end_of, prepared_of}
 use Rattle.plain_space.specs.declared.space.PlainSpace.{PlainSpace}
 
@@ -93,12 +94,39 @@ view_alike tells tells_images v w lv lw pv pw a b alike =
     (same_file tells v w a.id.n b.id.n alike.store.names alike.store.goes alike.id) in
     sym (λ k. record (view_of tells v a.id.n (alike.end k) (alike.prepared k)) { array = array k })
 
-pub are_regions : (tells : Bool) (v : View) (id end : ℕ) (prepared : List Extent) → end ≤ 2 ^ 48
-    → AreRegions (view_of tells v id end prepared)
-are_regions tells v id end prepared short = record {
-  low = λ c. omega arith;
-  high = λ c. short;
-  small = λ c. omega arith;
-  fits = λ c. omega arith;
-  apart = λ c d. inl (refl, refl);
+-- it stands as before
+pub stands_alike : {S : Type 0} (tells tells_images : Bool) (v w : View) (lv lw : Files → Type 0) (pv pw : Snapshot
+    → Type 0) (a b : PlainSpace S)
+    → IsAlike tells tells_images v w lv lw pv pw a b → IsOpen tells v a.id.n a.end → IsOpen tells w b.id.n b.end
+stands_alike tells tells_images v w lv lw pv pw a b alike stands = record {
+  given = subst (λ (n : List ℕ). 0 < length n) (sym ((λ k. alike.store.names k b.id.n) ∙ ap v.names alike.id))
+      stands.given;
+  length_is = λ told. alike.end ∙ stands.length_is told
+      ∙ ap (λ (f : List ℕ). length (seen f))
+      (sym (same_file tells v w a.id.n b.id.n alike.store.names alike.store.goes alike.id told));
+}
+
+-- and rests as before
+pub rests_alike : {S : Type 0} (tells tells_images : Bool) (v w : View) (lv lw : Files → Type 0) (pv pw : Snapshot
+    → Type 0) (a b : PlainSpace S)
+    → IsAlike tells tells_images v w lv lw pv pw a b → RestsIn tells tells_images v lv a.id.n
+    → RestsIn tells tells_images w lw b.id.n
+rests_alike tells tells_images v w lv lw pv pw a b alike rests told images honest c left =
+    let was = rests told images (subst IsTrue alike.store.goes.honest honest) c (alike.store.fewer images c left) in
+    let named : w.names b.id.n ≡ v.names a.id.n = (λ k. w.names (alike.id k)) ∙ (λ k. alike.store.names k a.id.n) in
+    (λ k. c (named k)) ∙ was
+    ∙ sym (same_file tells v w a.id.n b.id.n alike.store.names alike.store.goes alike.id told)
+
+-- what a space over one file tells is sound
+pub is_sound : (tells : Bool) (v : View) (id end : ℕ) (prepared : List Extent) → end ≤ 2 ^ 48
+    → IsSound tells (view_of tells v id end prepared)
+is_sound tells v id end prepared short = record {
+  regions = record {
+    low = λ c. omega arith;
+    high = λ c. short;
+    small = λ c. omega arith;
+    fits = λ c. omega arith;
+    apart = λ c d. inl (refl, refl);
+  };
+  counted = λ told c has. absurd (none-some c has);
 }

@@ -1,11 +1,12 @@
 -- When one space over a file came from another by calls.
 -- Cited by `PlainSpace`, and by its callers.
 use Rattle.std.specs.Prelude.{◌≡◌, ℕ, ◌^◌, ◌≤◌, Bool, IsTrue, List, length, drop, Some}
-use Rattle.std.proofs.Common.{refl, sym, ◌∙◌, inl, inr, ⊎_elim, ap, arith}
+use Rattle.std.proofs.Common.{refl, sym, ◌∙◌, inl, inr, ⊎_elim, ap, subst, arith}
+use Rattle.outside.specs.Causes.{NoneFell}
 use Rattle.outside.specs.Files.{Files, Snapshot, InFile, Follows}
 use Rattle.outside.specs.Store.{View, Calls, Goes, GoesOver, Passes}
 use Rattle.outside.proofs.Goes.{goes_on, goes_call, over_on, over_call, over_quiet}
-use Rattle.plain_space.specs.File.{file_in, Looks, Touches}
+use Rattle.plain_space.specs.File.{file_in, faults_of, Looks, Touches}
 use Rattle.plain_space.specs.Plain.{id_of, end_of}
 use Rattle.plain_space.specs.Alike.{IsAlike, same_file}
 use Rattle.plain_space.specs.declared.space.PlainSpace.{PlainSpace}
@@ -129,3 +130,11 @@ came_on tells tells_images u v w lu lv lw pu pv pw a b c first second = record {
         → length (file_in w (id_of a)) ≡ length (file_in u (id_of a))
     length_on told same further = ap (λ (k : ℕ). length (file_in w k)) (sym first.id) ∙ second.same_length told further
         ∙ ap (λ (k : ℕ). length (file_in v k)) first.id ∙ first.same_length told same
+
+-- no count falls
+pub came_counts : {S : Type 0} (tells tells_images : Bool) (v w : View) (lv lw : Files → Type 0) (pv pw : Snapshot
+    → Type 0) (a b : PlainSpace S)
+    → CameFrom tells tells_images v w lv lw pv pw a b → NoneFell (faults_of v a.id.n) (faults_of w b.id.n)
+came_counts tells tells_images v w lv lw pv pw a b came k =
+    subst (λ (i : ℕ). v.counts (Some a.id.n) ≤ w.counts (Some i)) (sym came.id)
+    (came.store.goes.counts (Some (id_of a)))

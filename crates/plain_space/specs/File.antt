@@ -1,10 +1,11 @@
 -- One file of a store by address: what a space over it tells, when it stands and when it rests.
 -- Cited by `PlainSpace`, and by its callers.
 use Rattle.std.specs.Prelude.{◌≡◌, ◌≢◌, ℕ, ◌^◌, ◌<◌, Bool, true, false, IsTrue, List, length, take, drop, Option, Some}
-use Rattle.std.specs.Prelude.{None}
+use Rattle.std.specs.Prelude.{None, []}
 use Rattle.h5_base.specs.declared.extent.Extent.{Extent}
 use Rattle.h5_base.specs.declared.extent.Region.{Region}
 use Rattle.outside.specs.Array.{Array, array_of}
+use Rattle.outside.specs.Causes.{Counts}
 use Rattle.outside.specs.Files.{Files, Snapshot, RestsAt}
 use Rattle.outside.specs.Space.{SpaceView}
 use Rattle.outside.specs.Store.{View, Goes, GoesOver}
@@ -35,7 +36,12 @@ view_of tells v id end prepared = record {
   writable = true;
   prepared = prepared;
   committed = None;
+  history = record { revisions = []; origin = λ class. 0 };
 }
+
+-- the faults of its one file, whatever the number
+abbrev pub faults_of : View → ℕ → Counts
+faults_of v id = λ k. v.counts (Some id)
 
 -- The id was given, and the end is the number of the bytes that are seen of its file, where it is told.
 pub record IsOpen (tells : Bool) (v : View) (id end : ℕ) : Type 0 where

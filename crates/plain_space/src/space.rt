@@ -24,9 +24,9 @@ pub struct PlainSpace<S> {
 impl<S: Store> PlainSpace<S> {
     ghost use Rattle.std.specs.Prelude.{◌<◌, [], length, Some, IsTrue, IfOk, OnErr};
     ghost use Rattle.outside.specs.Array.{array_of};
-    ghost use Rattle.outside.specs.Causes.{Rose};
+    ghost use Rattle.outside.specs.Causes.{Rose, OneRose};
     ghost use Rattle.outside.specs.Store.{SomeRose};
-    ghost use Rattle.plain_space.specs.File.{file_in, seen, view_of, RestsIn, Looks, Touches};
+    ghost use Rattle.plain_space.specs.File.{file_in, seen, view_of, faults_of, RestsIn, Looks, Touches};
     ghost use Rattle.plain_space.specs.Plain.{store_of, id_of, end_of, prepared_of, store_left};
     ghost use Rattle.plain_space.specs.declared.space.PlainSpace.{PlainSpace};
 
@@ -64,7 +64,7 @@ impl<S: Store> PlainSpace<S> {
             (end_of self) (prepared_of self) }
         ensures array { IsTrue S.tells_files → (⟦<PlainSpace<S> as Space>⟧.view self).array ≡ array_of
             (seen (file_in (S.view result) (id_of self))) }
-        ensures faults { ⟦<PlainSpace<S> as Space>⟧.faults self ≡ (S.view result).counts (Some (id_of self)) }
+        ensures faults { ⟦<PlainSpace<S> as Space>⟧.faults self ≡ faults_of (S.view result) (id_of self) }
         ensures moment { ⟦<PlainSpace<S> as Space>⟧.moment self ≡ (S.view result).moment }
         ensures rests { ⟦<PlainSpace<S> as Space>⟧.Rests self
             → RestsIn S.tells_files S.tells_images (S.view result) (S.leaves result) (id_of self) }
@@ -83,7 +83,7 @@ impl<S: Store> PlainSpace<S> {
             → file_in (S.view result) (id_of a) ≡ file_in (S.view (store_of a)) (id_of a) }
         // A fault of the space is one of the store.
         ensures rose { (a : PlainSpace S) → ⟦<PlainSpace<S> as Space>⟧.GoesOn a self
-            → Rose (⟦<PlainSpace<S> as Space>⟧.faults a) (⟦<PlainSpace<S> as Space>⟧.faults self)
+            → OneRose (⟦<PlainSpace<S> as Space>⟧.faults a) (⟦<PlainSpace<S> as Space>⟧.faults self)
             → SomeRose (S.view (store_of a)) (S.view result) }
     {
         let PlainSpace {
@@ -112,10 +112,12 @@ impl<S: Store> Kept for PlainSpace<S> {
 }
 
 impl<S: Store> Space for PlainSpace<S> {
-    ghost use Rattle.std.specs.Prelude.{Bool, false, Some};
-    ghost use Rattle.plain_space.specs.File.{view_of, IsOpen, RestsIn};
-    ghost use Rattle.plain_space.specs.Alike.{view_alike, are_regions};
-    ghost use Rattle.plain_space.specs.CameFrom.{CameFrom, came_alike, came_on};
+    ghost use Rattle.std.specs.Prelude.{Bool, false};
+    ghost use Rattle.std.proofs.Common.{arith};
+    ghost use Rattle.plain_space.specs.File.{view_of, faults_of, IsOpen, RestsIn};
+    ghost use Rattle.plain_space.specs.Alike.{view_alike, stands_alike, rests_alike, is_sound};
+    ghost use Rattle.plain_space.specs.CameFrom.{CameFrom, came_alike, came_on, came_counts};
+    ghost use Rattle.std.proofs.lemmas.Bool.{false≢true};
 
     ghost tells = { S.tells_files };
 
@@ -125,9 +127,9 @@ impl<S: Store> Space for PlainSpace<S> {
 
     ghost Stands = { λ s. IsOpen S.tells_files (S.view s.store) s.id.n s.end };
 
-    ghost faults = { λ s. (S.view s.store).counts (Some s.id.n) };
+    ghost faults = { λ s. faults_of (S.view s.store) s.id.n };
 
-    ghost copy_faults = { λ _. 0 };
+    ghost copy_faults = { λ _ _. 0 };
 
     ghost Rests = { λ s. RestsIn S.tells_files S.tells_images (S.view s.store) (S.leaves s.store) s.id.n };
 
@@ -221,5 +223,22 @@ impl<S: Store> Space for PlainSpace<S> {
         (S.leaves a.store) (S.leaves b.store) (S.leaves c.store) (S.past a.store) (S.past b.store)
         (S.past c.store) a b c first second };
 
-    ghost sound = { λ a. are_regions S.tells_files (S.view a.store) a.id.n a.end a.prepared.items a.short };
+    ghost goes_counts = { λ a b h. came_counts S.tells_files S.tells_images (S.view a.store) (S.view b.store)
+        (S.leaves a.store) (S.leaves b.store) (S.past a.store) (S.past b.store) a b h };
+
+    ghost goes_copy = { λ a b h k. omega arith };
+
+    ghost goes_moment = { λ a b h. h.store.goes.moment };
+
+    ghost alike_stands = { λ a b h. stands_alike S.tells_files S.tells_images (S.view a.store) (S.view b.store)
+        (S.leaves a.store) (S.leaves b.store) (S.past a.store) (S.past b.store) a b h };
+
+    ghost alike_rests = { λ a b h. rests_alike S.tells_files S.tells_images (S.view a.store) (S.view b.store)
+        (S.leaves a.store) (S.leaves b.store) (S.past a.store) (S.past b.store) a b h };
+
+    ghost alike_steady = { λ told. absurd (false≢true told) };
+
+    ghost alike_stops = { λ told. absurd (false≢true told) };
+
+    ghost sound = { λ a _. is_sound S.tells_files (S.view a.store) a.id.n a.end a.prepared.items a.short };
 }
