@@ -1,6 +1,6 @@
 ghost use Rattle.std.specs.Prelude.{◌≡◌, ◌≤◌, ℕ, IsTrue, IfOk, IfErr, OnOk, IsErrOf};
 ghost use Rattle.h5_base.specs.declared.extent.MemClass.TheVariants as class;
-ghost use Rattle.outside.specs.Causes.{Rose};
+ghost use Rattle.outside.specs.Causes.{OneRose};
 ghost use Rattle.super_codec.specs.Super.{Spells};
 ghost use Rattle.file_model.specs.Holds.{super_bytes_of};
 ghost use Rattle.file_model.specs.Laws.{one_region};
@@ -31,10 +31,9 @@ fn read_front<V: Space>(space: &mut V, end: u64) -> Result<Superblock, Stop>
         (λ s. Spells s (super_bytes_of (V.view space.old).array (one_region end))) }
     ensures lacks { IsTrue V.tells → IfErr result (λ stop. (why : Refusal) → stop ≡ Stop.Refused why
         → LacksSuper (V.view space.old).array end why) }
-    ensures failed { IsErrOf result Stop.Failed → Rose (V.faults space.old) (V.faults space.new) }
+    ensures failed { IsErrOf result Stop.Failed → OneRose (V.faults space.old) (V.faults space.new) }
     ensures memory { IsErrOf result Stop.NoMemory → ⊥ }
     ensures alike { V.Alike space.old space.new }
-    ensures stands { (IsErrOf result Stop.Failed → ⊥) → V.Stands space.new }
 {
     let mut buffer = [0; 100];
     let front = &mut buffer[..end.min(100) as usize];
@@ -58,10 +57,9 @@ pub(crate) fn judge<V: Space>(space: &mut V) -> Result<(), Stop>
         (IsAdmitted (V.view space.old).array ((V.view space.old).ends class.Super)) }
     ensures refused { IsTrue V.tells → IfErr result (λ stop. (why : Refusal) → stop ≡ Stop.Refused why
         → IsRefused (V.view space.old).array ((V.view space.old).ends class.Super) why) }
-    ensures failed { IsErrOf result Stop.Failed → Rose (V.faults space.old) (V.faults space.new) }
+    ensures failed { IsErrOf result Stop.Failed → OneRose (V.faults space.old) (V.faults space.new) }
     ensures memory { IsErrOf result Stop.NoMemory → ⊥ }
     ensures alike { V.Alike space.old space.new }
-    ensures stands { (IsErrOf result Stop.Failed → ⊥) → V.Stands space.new }
 {
     let end = space.end(MemClass::Super);
     if end == 0 {

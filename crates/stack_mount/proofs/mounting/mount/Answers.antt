@@ -1,7 +1,8 @@
-use Rattle.std.proofs.Common.{sym, ◌∙◌, ap}
-use Rattle.outside.proofs.Goes.{goes_on, over_on}
+use Rattle.std.proofs.Common.{Err, sym, ◌∙◌, ap}
+use Rattle.outside.proofs.Goes.{goes_on, over_on, then_rose}
 use Rattle.outside.specs.Space.{SpaceView}
-use Rattle.plain_space.specs.Alike.{view_alike}
+use Rattle.plain_space.specs.Alike.{view_alike, stands_alike}
+use Rattle.plain_space.specs.CameFrom.{came_alike}
 use Rattle.stack_mount.proofs.Fronts.{admitted_at, refused_at}
 use Rattle.stack_mount.proofs.mounting.mount.Goals as goal
 
@@ -34,3 +35,22 @@ returns-in-Err-judge-clause-since g c = λ told.
     over_on (λ q. ⊥) (g.S.Store.leaves c.args.store) (g.S.Store.leaves c.in-Ok.space.store) (g.S.Store.leaves c.into_store.result)
     (g.S.Store.past c.args.store) (g.S.Store.past c.in-Ok.space.store) (g.S.Store.past c.into_store.result)
     (c.in-Ok.ensures.left.since told) ((c.into_store.ensures.looked c.in-Ok.space c.in-Err-judge.ensures.alike).since told)
+
+pub returns-in-Ok-judge-clause-stands : goal.returns-in-Ok-judge-clause-stands
+returns-in-Ok-judge-clause-stands g c =
+    let a = c.in-Ok.space in
+    let b = c.judge.new.space in
+    stands_alike g.S.Store.tells_files g.S.Store.tells_images (g.S.Store.view a.store) (g.S.Store.view b.store)
+    (g.S.Store.leaves a.store) (g.S.Store.leaves b.store) (g.S.Store.past a.store) (g.S.Store.past b.store) a b
+    c.in-Ok-judge.ensures.alike c.in-Ok.ensures.stands
+
+pub returns-in-Err-judge-clause-failed : goal.returns-in-Err-judge-clause-failed
+returns-in-Err-judge-clause-failed g c = λ failed.
+    let a = c.in-Ok.space in
+    let b = c.judge.new.space in
+    let came = came_alike g.S.Store.tells_files g.S.Store.tells_images (g.S.Store.view a.store) (g.S.Store.view b.store)
+    (g.S.Store.leaves a.store) (g.S.Store.leaves b.store) (g.S.Store.past a.store) (g.S.Store.past b.store) a b
+    c.in-Err-judge.ensures.alike in
+    then_rose g.S.Store.tells_files (λ q. ⊥) (g.S.Store.view c.args.store) (g.S.Store.view a.store)
+    (g.S.Store.view c.into_store.result) c.in-Ok.ensures.left.goes
+    (c.into_store.ensures.rose a came (c.in-Err-judge.ensures.failed (ap Err failed)))
