@@ -4,11 +4,11 @@ use Rattle.std.proofs.lemmas.List.{append_assoc}
 use Rattle.outside.specs.Array.{Array}
 use Rattle.outside.specs.Blocks.{Block}
 use Rattle.outside.specs.Space.{SpaceView, bounds_of}
-use Rattle.block_space.specs.Blocks.{Keeps}
+use Rattle.block_space.specs.Blocks.{Keeps, Takes}
 use Rattle.block_space.specs.declared.blocks.Blocks.{Blocks}
-use Rattle.block_reader.specs.declared.stop.TreeStop.{TreeStop}
+use Rattle.h5_base.specs.declared.refusal.Stop.{Stop}
 use Rattle.h5_base.specs.Refusals.{refusal_of}
-use Rattle.block_reader.proofs.Stopped.{if_some}
+use Rattle.block_space.proofs.Stopped.{if_some}
 use Rattle.object_model.specs.Tree.{Group, Name, AreOrdered}
 use Rattle.file_model.specs.Groups.{Ks, Found, Target, Header, HasLinks}
 use Rattle.file_model.specs.Holds.{Full, FullLinks, founds, blocks_in, blocks_of}
@@ -16,7 +16,6 @@ use Rattle.file_model.specs.Limits.{IsSmallHeap}
 use Rattle.file_model.specs.RefusedGroups.{IsTableRefused, names_of}
 use Rattle.file_model.specs.RefusedTree.{AreLinksRefused, IsObjectRefused}
 use Rattle.group_reader.specs.Links.{links_of}
-use Rattle.group_reader.specs.Reading.{Takes}
 use Rattle.group_reader.specs.declared.link.FoundLink.{FoundLink}
 use Rattle.tree_nodes.specs.declared.node.Node.{Node}
 use Rattle.tree_nodes.specs.declared.node.NodeId.{NodeId}
@@ -83,20 +82,20 @@ group_from view old mid new before after b c ks levels key tree heap told fs (Ok
 group_from view old mid new before after b c ks levels key tree heap told fs (Err e) same table each = tt
 
 -- refusals of a group's links
-abbrev pub GroupRefused : {V : Type 0} → (V → SpaceView) → (old : Blocks V) → SpaceView → Ks → (levels objects tree heap : ℕ) → TreeStop → Type 0
+abbrev pub GroupRefused : {V : Type 0} → (V → SpaceView) → (old : Blocks V) → SpaceView → Ks → (levels objects tree heap : ℕ) → Stop → Type 0
 GroupRefused view old v ks levels objects tree heap stop =
     (met : List Block) (own : Option (List ℕ)) → Keeps view old met → IfSome (refusal_of stop) (IsGroupRefused v.array (bounds_of v own) ks levels objects met tree heap)
 
-pub table_refused : {V : Type 0} (view : V → SpaceView) (old : Blocks V) (v : SpaceView) (ks : Ks) (levels objects tree heap : ℕ) (stop : TreeStop)
+pub table_refused : {V : Type 0} (view : V → SpaceView) (old : Blocks V) (v : SpaceView) (ks : Ks) (levels objects tree heap : ℕ) (stop : Stop)
     → ((met : List Block) (own : Option (List ℕ)) → Keeps view old met → IfSome (refusal_of stop) (IsTableRefused v.array (bounds_of v own) ks met tree heap)) → GroupRefused view old v ks levels objects tree heap stop
 table_refused view old v ks levels objects tree heap stop h met own keeps =
     if_some (refusal_of stop) (IsTableRefused v.array (bounds_of v own) ks met tree heap) (IsGroupRefused v.array (bounds_of v own) ks levels objects met tree heap) (λ r x. inl x) (h met own keeps)
 
-abbrev pub EachRefused : {V : Type 0} → (V → SpaceView) → (mid : Blocks V) → SpaceView → Ks → (levels objects : ℕ) → List Found → TreeStop → Type 0
+abbrev pub EachRefused : {V : Type 0} → (V → SpaceView) → (mid : Blocks V) → SpaceView → Ks → (levels objects : ℕ) → List Found → Stop → Type 0
 EachRefused view mid w ks levels objects fs stop =
     (met : List Block) (own : Option (List ℕ)) → Keeps view mid met → IfSome (refusal_of stop) (AreLinksRefused (IsObjectRefused w.array (bounds_of w own) ks levels) w.array ks objects met fs)
 
-pub each_refused : {V T : Type 0} (view : V → SpaceView) (old mid : Blocks V) (v w : SpaceView) (ks : Ks) (levels objects tree heap : ℕ) (fs : List Found) (r : Result T TreeStop) → v ≡ w → TableRead view old mid v.array ks tree heap fs
+pub each_refused : {V T : Type 0} (view : V → SpaceView) (old mid : Blocks V) (v w : SpaceView) (ks : Ks) (levels objects tree heap : ℕ) (fs : List Found) (r : Result T Stop) → v ≡ w → TableRead view old mid v.array ks tree heap fs
     → IfErr r (EachRefused view mid w ks levels objects fs) → IfErr r (GroupRefused view old v ks levels objects tree heap)
 each_refused view old mid v w ks levels objects tree heap fs (Ok x) same table h = tt
 each_refused view old mid v w ks levels objects tree heap fs (Err stop) same table h = λ met own keeps.
@@ -108,7 +107,7 @@ each_refused view old mid v w ks levels objects tree heap fs (Err stop) same tab
 -- ---- an object and all below it
 
 pub object_from : {V T E : Type 0} (view : V → SpaceView) (old mid new : Blocks V) (before linked after : ObjectTree) (b c : Array) (ks : Ks) (levels at group key tree heap : ℕ) (name : Name) (n : Node) (told : Bool) (r : Result T E) → b ≡ c → 1 ≤ levels
-    → table_of n ≡ Some (tree, heap) → IsThere before linked group → Inserts before linked group name key n
+    → table_of n ≡ Some (record { tree_at = tree; heap_at = heap }) → IsThere before linked group → Inserts before linked group name key n
     → (IsTrue told → (met : List Block) → Keeps view old met → (own : List Block) × IsNodeFound b ks at n own × Keeps view mid (met ++ own))
     → OnOk r (OpenedGroup view mid new linked after c ks (levels - 1) key tree heap told) → OnOk r (OpenedLink view old new before after b ks levels group name told (Header at))
 object_from view old mid new before linked after b c ks levels at group key tree heap name n told (Ok x) same some table there ins read links =
@@ -125,10 +124,10 @@ object_from view old mid new before linked after b c ks levels at group key tree
     )
 object_from view old mid new before linked after b c ks levels at group key tree heap name n told (Err e) same some table there ins read links = tt
 
-abbrev pub ObjectRefused : {V : Type 0} → (V → SpaceView) → (old : Blocks V) → SpaceView → Ks → (levels objects at : ℕ) → TreeStop → Type 0
+abbrev pub ObjectRefused : {V : Type 0} → (V → SpaceView) → (old : Blocks V) → SpaceView → Ks → (levels objects at : ℕ) → Stop → Type 0
 ObjectRefused view old v ks levels objects at stop = (met : List Block) (own : Option (List ℕ)) → Keeps view old met → IfSome (refusal_of stop) (IsObjectRefused v.array (bounds_of v own) ks levels objects met at)
 
-pub object_refused : {V T : Type 0} (view : V → SpaceView) (old mid : Blocks V) (v w : SpaceView) (ks : Ks) (levels objects count at tree heap : ℕ) (n : Node) (r : Result T TreeStop) → v ≡ w → 1 ≤ levels → table_of n ≡ Some (tree, heap) → count ≡ objects + 1
+pub object_refused : {V T : Type 0} (view : V → SpaceView) (old mid : Blocks V) (v w : SpaceView) (ks : Ks) (levels objects count at tree heap : ℕ) (n : Node) (r : Result T Stop) → v ≡ w → 1 ≤ levels → table_of n ≡ Some (record { tree_at = tree; heap_at = heap }) → count ≡ objects + 1
     → ((met : List Block) → Keeps view old met → (own : List Block) × IsNodeFound v.array ks at n own × Keeps view mid (met ++ own))
     → IfErr r (GroupRefused view mid w ks (levels - 1) count tree heap) → IfErr r (ObjectRefused view old v ks levels objects at)
 object_refused view old mid v w ks levels objects count at tree heap n (Ok x) same some table counted read h = tt

@@ -1,14 +1,10 @@
 -- What was found where a header is makes a node.
-use Rattle.std.proofs.Common.{◌≡◌, ℕ, ◌≤◌, List, ◌++◌, Option, Result, Ok, Err, IfOk, IfErr, IfSome, refl, sym, ap, subst}
-use Rattle.dtype.specs.declared.types.ElemType.{ElemType}
-use Rattle.dtype.specs.declared.types.Shape.{Shape}
-use Rattle.header_codec.specs.declared.types.Fill.{Fill}
-use Rattle.header_codec.specs.declared.types.Layout.{Layout}
+use Rattle.std.proofs.Common.{◌≡◌, ℕ, ◌≤◌, false, List, ◌++◌, Option, IfSome, refl, sym, ◌∙◌, ap, subst}
 use Rattle.header_codec.specs.declared.types.Prefix.{Prefix}
 use Rattle.std.proofs.lemmas.List.{append_assoc}
 use Rattle.outside.specs.Array.{Array}
 use Rattle.outside.specs.Space.{SpaceView, bounds_of}
-use Rattle.block_space.specs.Blocks.{Keeps}
+use Rattle.block_space.specs.Blocks.{Keeps, Takes}
 use Rattle.block_space.specs.declared.blocks.Blocks.{Blocks}
 use Rattle.outside.specs.Blocks.{Block, Bounds}
 use Rattle.file_model.specs.Headers.{Part, IsHeader, header_blocks}
@@ -22,17 +18,19 @@ use Rattle.file_model.specs.RefusedChunks.{IsStorageRefused}
 use Rattle.file_model.specs.RefusedTree.{RefusedObject, IsRefusedWith, InHeader, InStorage, IsObjectRefused}
 use Rattle.file_model.proofs.UniqueHeaders.{prefix_same, header_same}
 use Rattle.file_model.proofs.UniqueTree.{not_later}
-use Rattle.object_header.specs.declared.types.ObjectKind.{ObjectKind}
-use Rattle.object_header.specs.declared.types.ObjectKind.TheVariants as kind
-use Rattle.block_reader.specs.declared.stop.TreeStop.{TreeStop}
+use Rattle.storage_reader.specs.declared.storage.Elements.{Elements}
+use Rattle.storage_reader.specs.Elements.{AreOf}
+use Rattle.tree_nodes.specs.Nodes.{is_dataset}
+use Rattle.file_model.specs.Objects.{DataInfo}
+use Rattle.h5_base.specs.declared.refusal.Stop.{Stop}
 use Rattle.h5_base.specs.Refusals.{refusal_of}
-use Rattle.block_reader.proofs.Stopped.{if_some}
+use Rattle.block_space.proofs.Stopped.{if_some}
 use Rattle.header_reader.specs.Found.{IsFound}
 use Rattle.header_reader.specs.declared.reading.Header.{Header}
 use Rattle.header_reader.specs.declared.reading.Header.TheVariants as header
 use Rattle.tree_nodes.specs.declared.node.Node.{Node}
 use Rattle.tree_nodes.specs.declared.node.Node.TheVariants as node
-use Rattle.object_tree.specs.Grown.{IsNodeFound}
+use Rattle.object_tree.specs.Grown.{IsNodeFound, HasParts}
 
 pub short_of : (b : Array) (at : ℕ) (p : Prefix) (ps : List Part) → IsHeader b at p ps → header_bytes at p ps ≤ most_header → IsShort b at
 short_of b at p ps h short q qs k =
@@ -40,17 +38,10 @@ short_of b at p ps h short q qs k =
     let parts = header_same b at p q ps qs h k in
     subst (λ (x : Prefix). header_bytes at x qs ≤ most_header) prefix (subst (λ (l : List Part). header_bytes at p l ≤ most_header) parts short)
 
-pub other_found : (b : Array) (ks : Ks) (at : ℕ) (bs : List Block) → IsFound b at (header.Known kind.Other) bs → IsNodeFound b ks at (node.Other at) bs
-other_found b ks at bs f = (
-  OtherLeaf (record { header_at = at; own = bs }),
-  refl,
-  Unsupported (record { prefix = f.0; parts = f.1; header = f.2; told = f.3; blocks = f.4 }),
-  refl,
-  refl,
-  short_of b at f.0 f.1 f.2 f.5,
-)
+-- ---- an object whose header is all
 
-pub later_found : (b : Array) (ks : Ks) (at : ℕ) (bs : List Block) → IsFound b at header.Later bs → IsNodeFound b ks at (node.Other at) bs
+pub later_found : (b : Array) (ks : Ks) (at : ℕ) (bs : List Block) → IsFound b at header.Later bs
+    → IsNodeFound b ks at (node.Other at) bs
 later_found b ks at bs f = (
   OtherLeaf (record { header_at = at; own = bs }),
   refl,
@@ -60,77 +51,134 @@ later_found b ks at bs f = (
   λ p ps h. absurd (not_later b at p ps h f.0),
 )
 
-pub group_found : (b : Array) (ks : Ks) (at tree heap : ℕ) (bs : List Block) → IsFound b at (header.Known (kind.Group tree heap)) bs → IsNodeFound b ks at (node.Group at tree heap) bs
-group_found b ks at tree heap bs f = (f.0, f.1, f.2, f.3, refl, f.4, f.5)
+-- a header that makes no dataset is all that was read of its node
+pub plain_found : (b : Array) (ks : Ks) (at : ℕ) (n : Node) (bs : List Block) → is_dataset n ≡ false
+    → IsFound b at (header.Known n) bs → IsNodeFound b ks at n bs
+plain_found b ks at (node.Group header tree heap) bs none f = (f.0, f.1, f.2, f.3.1, f.3.0, f.4, f.5)
+plain_found b ks at (node.Dataset header shape elem fill layout filtered) bs none f = absurd cc
+plain_found b ks at (node.Soft text) bs none f = absurd f.3
+plain_found b ks at (node.Other header) bs none f = (
+  OtherLeaf (record { header_at = at; own = bs }),
+  ap node.Other f.3.0,
+  Unsupported (record { prefix = f.0; parts = f.1; header = f.2; told = f.3.1; blocks = f.4 }),
+  refl,
+  refl,
+  short_of b at f.0 f.1 f.2 f.5,
+)
 
-pub data_found : (b : Array) (ks : Ks) (at : ℕ) (shape : Shape) (elem : ElemType) (fill : Fill) (layout : Layout) (filtered : _) (bs ss : List Block) (cs : List Chunk)
-    (f : IsFound b at (header.Known (kind.Dataset shape elem fill layout filtered)) bs) → IsStoredBy b ks.chunk f.3.0 f.3.0.layout cs ss
-    → IsNodeFound b ks at (node.Dataset at shape elem fill layout filtered) (bs ++ ss)
-data_found b ks at shape elem fill layout filtered bs ss cs f stored =
-    let i = f.3.0 in
+-- ---- a dataset, with what is stored of it
+
+-- what the header of a dataset tells
+info_at : (b : Array) (at : ℕ) (n : Node) (bs : List Block) (e : Elements) → HasParts n e
+    → IsFound b at (header.Known n) bs → DataInfo
+info_at b at (node.Group header tree heap) bs e parts f = absurd parts
+info_at b at (node.Dataset header shape elem fill layout filtered) bs e parts f = f.3.1
+info_at b at (node.Soft text) bs e parts f = absurd parts
+info_at b at (node.Other header) bs e parts f = absurd parts
+
+pub info_of_elements : (b : Array) (at : ℕ) (n : Node) (bs : List Block) (e : Elements) (parts : HasParts n e)
+    (f : IsFound b at (header.Known n) bs) → AreOf (info_at b at n bs e parts f) e
+info_of_elements b at (node.Group header tree heap) bs e parts f = absurd parts
+info_of_elements b at (node.Dataset header shape elem fill layout filtered) bs e parts f = record {
+  shape = f.3.3 ∙ parts.0;
+  elem = f.3.4 ∙ parts.1;
+  layout = f.3.5 ∙ parts.2;
+  filtered = f.3.6 ∙ parts.3;
+}
+info_of_elements b at (node.Soft text) bs e parts f = absurd parts
+info_of_elements b at (node.Other header) bs e parts f = absurd parts
+
+pub data_found : (b : Array) (ks : Ks) (at : ℕ) (n : Node) (bs ss : List Block) (cs : List Chunk) (e : Elements)
+    (parts : HasParts n e) (f : IsFound b at (header.Known n) bs)
+    → IsStoredBy b ks.chunk (info_at b at n bs e parts f) (info_at b at n bs e parts f).layout cs ss
+    → IsNodeFound b ks at n (bs ++ ss)
+data_found b ks at (node.Group header tree heap) bs ss cs e parts f stored = absurd parts
+data_found b ks at (node.Dataset header shape elem fill layout filtered) bs ss cs e parts f stored =
+    let i = f.3.1 in
     let blocks : bs ++ ss ≡ header_blocks at f.0 f.1 ++ ss = ap (λ (l : List Block). l ++ ss) f.4 in (
       DataLeaf (record { header_at = at; info = i; chunks = cs; elements = elements_of b i cs; own = bs ++ ss }),
-      (refl, sym f.3.2, sym f.3.3, f.3.6, sym f.3.4, sym f.3.5),
-      record { prefix = f.0; parts = f.1; header = f.2; told = f.3.1; storage = ss; stored = stored; elements = refl; blocks = blocks },
+      (f.3.0, sym f.3.3, sym f.3.4, f.3.7, sym f.3.5, sym f.3.6),
+      record {
+        prefix = f.0;
+        parts = f.1;
+        header = f.2;
+        told = f.3.2;
+        storage = ss;
+        stored = stored;
+        elements = refl;
+        blocks = blocks;
+      },
       refl,
       refl,
       short_of b at f.0 f.1 f.2 f.5,
     )
+data_found b ks at (node.Soft text) bs ss cs e parts f stored = absurd parts
+data_found b ks at (node.Other header) bs ss cs e parts f stored = absurd parts
 
-pub storage_refused : (Refused : RefusedObject) (b : Array) (e : Bounds) (ks : Ks) (objects at : ℕ) (shape : Shape) (elem : ElemType) (fill : Fill) (layout : Layout) (filtered : _) (met bs : List Block) (r : Refusal)
-    (f : IsFound b at (header.Known (kind.Dataset shape elem fill layout filtered)) bs) → IsStorageRefused b e ks.chunk f.3.0 (met ++ bs) r → IsRefusedWith Refused b e ks objects met at r
-storage_refused Refused b e ks objects at shape elem fill layout filtered met bs r f x =
-    InStorage f.0 f.1 f.3.0 f.2 f.3.1 (subst (λ (l : List Block). IsStorageRefused b e ks.chunk f.3.0 (met ++ l) r) f.4 x)
+data_refused : (Refused : RefusedObject) (b : Array) (e : Bounds) (ks : Ks) (objects at : ℕ) (n : Node)
+    (met bs : List Block) (x : Elements) (r : Refusal) (parts : HasParts n x) (f : IsFound b at (header.Known n) bs)
+    → IsStorageRefused b e ks.chunk (info_at b at n bs x parts f) (met ++ bs) r
+    → IsRefusedWith Refused b e ks objects met at r
+data_refused Refused b e ks objects at (node.Group header tree heap) met bs x r parts f y = absurd parts
+data_refused Refused b e ks objects at (node.Dataset header shape elem fill layout filtered) met bs x r parts f y =
+    InStorage f.0 f.1 f.3.1 f.2 f.3.2 (subst (λ (l : List Block). IsStorageRefused b e ks.chunk f.3.1 (met ++ l) r) f.4 y)
+data_refused Refused b e ks objects at (node.Soft text) met bs x r parts f y = absurd parts
+data_refused Refused b e ks objects at (node.Other header) met bs x r parts f y = absurd parts
 
--- what was found, by the kind that it is
-pub known_is : (b : Array) (at : ℕ) (bs : List Block) (k l : ObjectKind) → k ≡ l → IsFound b at (header.Known k) bs → IsFound b at (header.Known l) bs
-known_is b at bs k l is f = subst (λ (x : ObjectKind). IsFound b at (header.Known x) bs) is f
+pub all_data_refused : (Refused : RefusedObject) (b : Array) (e : Bounds) (ks : Ks) (objects at : ℕ) (n : Node)
+    (met bs : List Block) (x : Elements) (stop : Stop) (parts : HasParts n x) (f : IsFound b at (header.Known n) bs)
+    → IfSome (refusal_of stop) (IsStorageRefused b e ks.chunk (info_at b at n bs x parts f) (met ++ bs))
+    → IfSome (refusal_of stop) (IsRefusedWith Refused b e ks objects met at)
+all_data_refused Refused b e ks objects at n met bs x stop parts f y =
+    if_some (refusal_of stop) (IsStorageRefused b e ks.chunk (info_at b at n bs x parts f) (met ++ bs))
+    (IsRefusedWith Refused b e ks objects met at)
+    (λ r z. data_refused Refused b e ks objects at n met bs x r parts f z) y
 
-pub all_storage_refused : (Refused : RefusedObject) (b : Array) (e : Bounds) (ks : Ks) (objects at : ℕ) (shape : Shape) (elem : ElemType) (fill : Fill) (layout : Layout) (filtered : _) (met bs : List Block) (stop : TreeStop)
-    (f : IsFound b at (header.Known (kind.Dataset shape elem fill layout filtered)) bs) → IfSome (refusal_of stop) (IsStorageRefused b e ks.chunk f.3.0 (met ++ bs)) → IfSome (refusal_of stop) (IsRefusedWith Refused b e ks objects met at)
-all_storage_refused Refused b e ks objects at shape elem fill layout filtered met bs stop f x =
-    if_some (refusal_of stop) (IsStorageRefused b e ks.chunk f.3.0 (met ++ bs)) (IsRefusedWith Refused b e ks objects met at) (λ r y. storage_refused Refused b e ks objects at shape elem fill layout filtered met bs r f y) x
-
-pub all_header_refused : (Refused : RefusedObject) (b : Array) (e : Bounds) (ks : Ks) (objects at : ℕ) (met : List Block) (stop : TreeStop) → IfSome (refusal_of stop) (IsHeaderRefused b e met at)
+pub all_header_refused : (Refused : RefusedObject) (b : Array) (e : Bounds) (ks : Ks) (objects at : ℕ)
+    (met : List Block) (stop : Stop) → IfSome (refusal_of stop) (IsHeaderRefused b e met at)
     → IfSome (refusal_of stop) (IsRefusedWith Refused b e ks objects met at)
 all_header_refused Refused b e ks objects at met stop x =
-    if_some (refusal_of stop) (IsHeaderRefused b e met at) (IsRefusedWith Refused b e ks objects met at) (λ r y. InHeader y) x
+    if_some (refusal_of stop) (IsHeaderRefused b e met at) (IsRefusedWith Refused b e ks objects met at)
+    (λ r y. InHeader y) x
 
-pub keeps_joined : {V : Type 0} (view : V → SpaceView) (blocks : Blocks V) (met bs ss : List Block) → Keeps view blocks ((met ++ bs) ++ ss) → Keeps view blocks (met ++ (bs ++ ss))
+pub keeps_joined : {V : Type 0} (view : V → SpaceView) (blocks : Blocks V) (met bs ss : List Block)
+    → Keeps view blocks ((met ++ bs) ++ ss) → Keeps view blocks (met ++ (bs ++ ss))
 keeps_joined view blocks met bs ss h = subst (Keeps view blocks) (append_assoc met bs ss) h
 
--- ---- the header first, and then what its kind wants
+-- ---- the header first, and then what is stored
 
--- a node that was found after its header
-abbrev AfterHeader : {V : Type 0} → (V → SpaceView) → (mid new : Blocks V) → Array → Ks → ℕ → ObjectKind → Result Node TreeStop → Type 0
-AfterHeader view mid new b ks at k r = IfOk r (λ n. (met bs : List Block) → IsFound b at (header.Known k) bs → Keeps view mid (met ++ bs) → (own : List Block) × IsNodeFound b ks at n own × Keeps view new (met ++ own))
+-- what was stored of a node whose header was found
+abbrev AfterHeader : {V : Type 0} → (V → SpaceView) → (mid new : Blocks V) → Array → Ks → Node → Type 0
+AfterHeader view mid new b ks n = (at : ℕ) (met bs : List Block) → IsFound b at (header.Known n) bs
+    → Keeps view mid (met ++ bs) → (own : List Block) × IsNodeFound b ks at n own × Keeps view new (met ++ own)
 
-pub node_after : {V : Type 0} (view : V → SpaceView) (old mid new : Blocks V) (b c : Array) (ks : Ks) (at : ℕ) (k : ObjectKind) (r : Result Node TreeStop) → b ≡ c
-    → ((met : List Block) → Keeps view old met → (bs : List Block) × IsFound b at (header.Known k) bs × Keeps view mid (met ++ bs))
-    → AfterHeader view mid new c ks at k r → IfOk r (λ n. (met : List Block) → Keeps view old met → (own : List Block) × IsNodeFound b ks at n own × Keeps view new (met ++ own))
-node_after view old mid new b c ks at k r same first next = go r (subst (λ (x : Array). AfterHeader view mid new x ks at k r) (sym same) next)
-  where
-    go : (r : Result Node TreeStop) → AfterHeader view mid new b ks at k r → IfOk r (λ n. (met : List Block) → Keeps view old met → (own : List Block) × IsNodeFound b ks at n own × Keeps view new (met ++ own))
-    go (Ok n) h = λ met keeps. let f = first met keeps in h met f.0 f.1 f.2
-    go (Err stop) h = tt
+pub node_after : {V : Type 0} (view : V → SpaceView) (old mid new : Blocks V) (b c : Array) (ks : Ks) (at : ℕ) (n : Node)
+    → b ≡ c → Takes view old mid (IsFound b at (header.Known n)) → AfterHeader view mid new c ks n
+    → Takes view old new (IsNodeFound b ks at n)
+node_after view old mid new b c ks at n same first next met keeps =
+    let f = first met keeps in
+    subst (λ (x : Array). AfterHeader view mid new x ks n) (sym same) next at met f.0 f.1 f.2
 
 abbrev NodeRefused : SpaceView → Ks → (levels objects : ℕ) → Option (List ℕ) → List Block → ℕ → Refusal → Type 0
-NodeRefused v ks levels objects own met at = IsRefusedWith (IsObjectRefused v.array (bounds_of v own) ks levels) v.array (bounds_of v own) ks objects met at
+NodeRefused v ks levels objects own met at =
+    IsRefusedWith (IsObjectRefused v.array (bounds_of v own) ks levels) v.array (bounds_of v own) ks objects met at
 
-abbrev RefusedAfter : {V : Type 0} → (V → SpaceView) → (mid : Blocks V) → SpaceView → Ks → ℕ → ObjectKind → Result Node TreeStop → Type 0
-RefusedAfter view mid v ks at k r =
-    IfErr r (λ stop. (levels objects : ℕ) (met bs : List Block) (own : Option (List ℕ)) → IsFound v.array at (header.Known k) bs → Keeps view mid (met ++ bs) → IfSome (refusal_of stop) (NodeRefused v ks levels objects own met at))
+abbrev RefusedAfter : {V : Type 0} → (V → SpaceView) → (mid : Blocks V) → SpaceView → Ks → Node → Stop → Type 0
+RefusedAfter view mid v ks n stop = (at levels objects : ℕ) (met bs : List Block) (own : Option (List ℕ))
+    → IsFound v.array at (header.Known n) bs → Keeps view mid (met ++ bs)
+    → IfSome (refusal_of stop) (NodeRefused v ks levels objects own met at)
 
-pub refused_after : {V : Type 0} (view : V → SpaceView) (old mid : Blocks V) (v w : SpaceView) (ks : Ks) (at objects : ℕ) (k : ObjectKind) (r : Result Node TreeStop) → v ≡ w
-    → ((met : List Block) → Keeps view old met → (bs : List Block) × IsFound v.array at (header.Known k) bs × Keeps view mid (met ++ bs))
-    → RefusedAfter view mid w ks at k r → IfErr r (λ stop. (levels : ℕ) (met : List Block) (own : Option (List ℕ)) → Keeps view old met → IfSome (refusal_of stop) (NodeRefused v ks levels objects own met at))
-refused_after view old mid v w ks at objects k r same first next = go r (subst (λ (x : SpaceView). RefusedAfter view mid x ks at k r) (sym same) next)
-  where
-    go : (r : Result Node TreeStop) → RefusedAfter view mid v ks at k r → IfErr r (λ stop. (levels : ℕ) (met : List Block) (own : Option (List ℕ)) → Keeps view old met → IfSome (refusal_of stop) (NodeRefused v ks levels objects own met at))
-    go (Ok n) h = tt
-    go (Err stop) h = λ levels met own keeps. let f = first met keeps in h levels objects met f.0 own f.1 f.2
+pub refused_after : {V : Type 0} (view : V → SpaceView) (old mid : Blocks V) (v w : SpaceView) (ks : Ks)
+    (at objects : ℕ) (n : Node) (stop : Stop) → v ≡ w
+    → Takes view old mid (IsFound v.array at (header.Known n)) → RefusedAfter view mid w ks n stop
+    → (levels : ℕ) (met : List Block) (own : Option (List ℕ)) → Keeps view old met
+    → IfSome (refusal_of stop) (NodeRefused v ks levels objects own met at)
+refused_after view old mid v w ks at objects n stop same first next levels met own keeps =
+    let f = first met keeps in
+    subst (λ (x : SpaceView). RefusedAfter view mid x ks n stop) (sym same) next at levels objects met f.0 own f.1 f.2
 
 -- what was found, as one of its cases
 pub found_as : {V : Type 0} (view : V → SpaceView) (old mid : Blocks V) (b : Array) (at : ℕ) (h j : Header) → h ≡ j
-    → ((met : List Block) → Keeps view old met → (bs : List Block) × IsFound b at h bs × Keeps view mid (met ++ bs)) → (met : List Block) → Keeps view old met → (bs : List Block) × IsFound b at j bs × Keeps view mid (met ++ bs)
-found_as view old mid b at h j is first met keeps = let f = first met keeps in (f.0, subst (λ (x : Header). IsFound b at x f.0) is f.1, f.2)
+    → Takes view old mid (IsFound b at h) → Takes view old mid (IsFound b at j)
+found_as view old mid b at h j is first =
+    subst (λ (x : Header). Takes view old mid (IsFound b at x)) is first

@@ -1,15 +1,14 @@
 -- One object that was read, with all below it.
 use Rattle.std.proofs.Common.{◌≡◌, ◌≢◌, ℕ, zero, suc, ◌+◌, ◌-◌, ◌≤◌, true, List, [], ◌++◌, Option, Some, None, IfSome, refl, sym, ◌∙◌, ap, subst, arith, inl, inr}
-use Rattle.std.specs.Prelude.{unwrap_or}
 use Rattle.std.proofs.lemmas.List.{append_assoc, append-nil}
 use Rattle.outside.specs.Array.{Array}
 use Rattle.outside.specs.Blocks.{Block, Bounds}
 use Rattle.outside.specs.Space.{SpaceView}
 use Rattle.block_space.specs.Blocks.{Keeps}
 use Rattle.block_space.specs.declared.blocks.Blocks.{Blocks}
-use Rattle.block_reader.specs.declared.stop.TreeStop.{TreeStop}
+use Rattle.h5_base.specs.declared.refusal.Stop.{Stop}
 use Rattle.h5_base.specs.Refusals.{refusal_of}
-use Rattle.block_reader.proofs.Stopped.{if_some}
+use Rattle.block_space.proofs.Stopped.{if_some}
 use Rattle.object_model.specs.Tree.{Group, Leaf, Name}
 use Rattle.file_model.specs.Groups.{Ks, Target, Header, Text, HasLinks}
 use Rattle.file_model.specs.Holds.{GroupAt, LeafAt, DataLeaf, SoftLeaf, OtherLeaf, Full, FullLinks, IsGroup, founds, blocks_in, blocks_of}
@@ -23,6 +22,7 @@ use Rattle.tree_nodes.specs.declared.tree.ObjectTree.{ObjectTree}
 use Rattle.tree_nodes.specs.Nodes.{Kept, bare, is_group, objects_at}
 use Rattle.tree_nodes.specs.Entries.{entry_of, Inserts}
 use Rattle.tree_nodes.specs.Shown.{KeyedLinks, single, HasKey, HasKeyBelow}
+use Rattle.object_tree.specs.declared.growing.Table.{Table}
 use Rattle.object_tree.specs.Opened.{IsGroupNode, IsLeafNode, Matches}
 use Rattle.object_tree.specs.Grown.{Grows, Adds, IsBareGroup, IsLeafFound, IsNodeFound, AreOpened, IsOpenedAt, IsGroupRefused, table_of}
 use Rattle.object_tree.proofs.NodesFound.{short_of}
@@ -68,19 +68,22 @@ leaf_opened view new b ks levels at key n met own some none f keeps =
 
 -- ---- groups
 
-group_node : (n : Node) (tree heap : ℕ) → table_of n ≡ Some (tree, heap) → (header : ℕ) × (n ≡ node.Group header tree heap)
+some_table : (a c : Table) → Some a ≡ Some c → a ≡ c
+some_table a c h = cc
+
+pub group_node : (n : Node) (tree heap : ℕ) → table_of n ≡ Some (record { tree_at = tree; heap_at = heap })
+    → (header : ℕ) × (n ≡ node.Group header tree heap)
 group_node (node.Group header t h) tree heap is =
-    let first : t ≡ tree = ap (λ (o : Option (ℕ × ℕ)). (unwrap_or o (0, 0)).0) is in
-    let second : h ≡ heap = ap (λ (o : Option (ℕ × ℕ)). (unwrap_or o (0, 0)).1) is in
-    (header, λ j. node.Group header (first j) (second j))
+    let same = some_table (record { tree_at = t; heap_at = h }) (record { tree_at = tree; heap_at = heap }) is in
+    (header, ap (λ (x : Table). node.Group header x.tree_at x.heap_at) same)
 group_node (node.Dataset header shape elem fill layout filtered) tree heap is = absurd cc
 group_node (node.Soft text) tree heap is = absurd cc
 group_node (node.Other header) tree heap is = absurd cc
 
-pub table_group : (n : Node) (tree heap : ℕ) → table_of n ≡ Some (tree, heap) → is_group n ≡ true
+pub table_group : (n : Node) (tree heap : ℕ) → table_of n ≡ Some (record { tree_at = tree; heap_at = heap }) → is_group n ≡ true
 table_group n tree heap is = let g = group_node n tree heap is in ap is_group g.1
 
-pub table_object : (n : Node) (tree heap : ℕ) → table_of n ≡ Some (tree, heap) → objects_at n ≡ 1
+pub table_object : (n : Node) (tree heap : ℕ) → table_of n ≡ Some (record { tree_at = tree; heap_at = heap }) → objects_at n ≡ 1
 table_object n tree heap is = let g = group_node n tree heap is in ap objects_at g.1
 
 not_none : (a : Kept) → Some a ≡ None → ⊥
@@ -89,7 +92,7 @@ not_none a h = cc
 pub bare_group : (old mid : ObjectTree) (group : ℕ) (name : Name) (key : ℕ) (n : Node) → Inserts old mid group name key n → is_group n ≡ true → IsBareGroup mid key
 bare_group old mid group name key n h g = record { node = n; group = g; bare_is = h.made }
 
-group_objects : (n : Node) → is_group n ≡ true → objects_at n ≡ 1
+pub group_objects : (n : Node) → is_group n ≡ true → objects_at n ≡ 1
 group_objects (node.Group header tree heap) h = refl
 group_objects (node.Dataset header shape elem fill layout filtered) h = absurd cc
 group_objects (node.Soft text) h = absurd cc
@@ -127,7 +130,7 @@ adds_group old mid new group name key n kls there ins isg grows = record {
     fresh k (inr x) =
         sym (ins.others k (λ is. below (subst (HasKeyBelow kls) is x)) (λ is. not_none (bare n) (sym ins.made ∙ ap (entry_of mid) (sym is) ∙ grows.fresh k x))) ∙ grows.fresh k x
 
-pub group_opened : {V : Type 0} (view : V → SpaceView) (new : Blocks V) (b : Array) (ks : Ks) (levels at key tree heap : ℕ) (n : Node) (kls : KeyedLinks) (met own index : List Block) (ls : FullLinks) → 1 ≤ levels → table_of n ≡ Some (tree, heap)
+pub group_opened : {V : Type 0} (view : V → SpaceView) (new : Blocks V) (b : Array) (ks : Ks) (levels at key tree heap : ℕ) (n : Node) (kls : KeyedLinks) (met own index : List Block) (ls : FullLinks) → 1 ≤ levels → table_of n ≡ Some (record { tree_at = tree; heap_at = heap })
     → IsNodeFound b ks at n own → HasLinks b ks tree heap (founds ls) index → IsSmallHeap b heap → AreOpened b ks (levels - 1) kls ls → Keeps view new ((met ++ own) ++ (index ++ blocks_in ls))
     → (u : Full) × IsOpenedAt b ks levels (Header at) (Group (record { key = key; node = n }) kls) u × Keeps view new (met ++ blocks_of u)
 group_opened view new b ks levels at key tree heap n kls met own index ls some table f links small opened keeps =
@@ -155,17 +158,17 @@ pub refused_at : (b : Array) (e : Bounds) (ks : Ks) (levels objects : ℕ) (met 
 refused_at b e ks zero objects met at r some x = absurd (omega (arith, some))
 refused_at b e ks (suc levels) objects met at r some x = let same : suc levels - 1 ≡ levels = omega arith in subst (λ (n : ℕ). IsRefusedWith (IsObjectRefused b e ks n) b e ks objects met at r) same x
 
-pub all_refused_at : (b : Array) (e : Bounds) (ks : Ks) (levels objects : ℕ) (met : List Block) (at : ℕ) (stop : TreeStop) → 1 ≤ levels → IfSome (refusal_of stop) (IsRefusedWith (IsObjectRefused b e ks (levels - 1)) b e ks objects met at)
+pub all_refused_at : (b : Array) (e : Bounds) (ks : Ks) (levels objects : ℕ) (met : List Block) (at : ℕ) (stop : Stop) → 1 ≤ levels → IfSome (refusal_of stop) (IsRefusedWith (IsObjectRefused b e ks (levels - 1)) b e ks objects met at)
     → IfSome (refusal_of stop) (IsObjectRefused b e ks levels objects met at)
 all_refused_at b e ks levels objects met at stop some x =
     if_some (refusal_of stop) (IsRefusedWith (IsObjectRefused b e ks (levels - 1)) b e ks objects met at) (IsObjectRefused b e ks levels objects met at) (λ r y. refused_at b e ks levels objects met at r some y) x
 
-pub refused_counted : (b : Array) (e : Bounds) (ks : Ks) (levels told objects : ℕ) (met : List Block) (at : ℕ) (stop : TreeStop) → told ≡ objects → 1 ≤ levels
+pub refused_counted : (b : Array) (e : Bounds) (ks : Ks) (levels told objects : ℕ) (met : List Block) (at : ℕ) (stop : Stop) → told ≡ objects → 1 ≤ levels
     → IfSome (refusal_of stop) (IsRefusedWith (IsObjectRefused b e ks (levels - 1)) b e ks told met at) → IfSome (refusal_of stop) (IsObjectRefused b e ks levels objects met at)
 refused_counted b e ks levels told objects met at stop same some x =
     all_refused_at b e ks levels objects met at stop some (subst (λ (k : ℕ). IfSome (refusal_of stop) (IsRefusedWith (IsObjectRefused b e ks (levels - 1)) b e ks k met at)) same x)
 
-pub group_refused : (b : Array) (e : Bounds) (ks : Ks) (levels objects count at tree heap : ℕ) (n : Node) (met own : List Block) (r : Refusal) → 1 ≤ levels → table_of n ≡ Some (tree, heap) → IsNodeFound b ks at n own → count ≡ objects + 1
+pub group_refused : (b : Array) (e : Bounds) (ks : Ks) (levels objects count at tree heap : ℕ) (n : Node) (met own : List Block) (r : Refusal) → 1 ≤ levels → table_of n ≡ Some (record { tree_at = tree; heap_at = heap }) → IsNodeFound b ks at n own → count ≡ objects + 1
     → IsGroupRefused b e ks (levels - 1) count (met ++ own) tree heap r → IsObjectRefused b e ks levels objects met at r
 group_refused b e ks levels objects count at tree heap n met own r some table f counted x =
     refused_at b e ks levels objects met at r some (go x)

@@ -6,9 +6,9 @@ use Rattle.outside.specs.Blocks.{Block}
 use Rattle.outside.specs.Space.{SpaceView, bounds_of}
 use Rattle.block_space.specs.Blocks.{Keeps}
 use Rattle.block_space.specs.declared.blocks.Blocks.{Blocks}
-use Rattle.block_reader.specs.declared.stop.TreeStop.{TreeStop}
+use Rattle.h5_base.specs.declared.refusal.Stop.{Stop}
 use Rattle.h5_base.specs.Refusals.{refusal_of}
-use Rattle.block_reader.proofs.Stopped.{if_some}
+use Rattle.block_space.proofs.Stopped.{if_some}
 use Rattle.object_model.specs.Tree.{Empty, Link, Group, Leaf, Name, names, AreOrdered}
 use Rattle.file_model.specs.Groups.{Ks, Found}
 use Rattle.file_model.specs.Holds.{LeafAt, DataLeaf, SoftLeaf, OtherLeaf, Full, FullLinks, AreHeld, IsHeld, founds, blocks_in, blocks_of, target_of as full_target}
@@ -157,7 +157,7 @@ refused_later Refused b ks objects met (Link n t rest) fs r h x =
     inr (t, h.0, refl, refused_later Refused b ks (objects + full_objects t) (met ++ blocks_of t) rest fs r h.1 x'')
 
 pub refused_next : {V : Type 0} (view : V → SpaceView) (old mid : Blocks V) (v w : SpaceView) (ks : Ks) (levels : ℕ) (before now : ObjectTree) (key : ℕ) (kls : KeyedLinks) (items ys : List FoundLink) (x : FoundLink) (rest : List FoundLink)
-    (stop : TreeStop) → v ≡ w → items ≡ ys ++ x ∷ rest → Grows before now key kls → SoFar view old mid v.array ks levels kls (map found_of ys)
+    (stop : Stop) → v ≡ w → items ≡ ys ++ x ∷ rest → Grows before now key kls → SoFar view old mid v.array ks levels kls (map found_of ys)
     → ((met : List Block) (own : Option (List ℕ)) → Keeps view mid met → IfSome (refusal_of stop) (IsTargetRefused (IsObjectRefused w.array (bounds_of w own) ks levels) (object_count now) met (target_of x.target)))
     → (met : List Block) (own : Option (List ℕ)) → Keeps view old met → IfSome (refusal_of stop) (AreLinksRefused (IsObjectRefused v.array (bounds_of v own) ks levels) v.array ks (object_count before) met (map found_of items))
 refused_next view old mid v w ks levels before now key kls items ys x rest stop same is grows first next met own keeps =

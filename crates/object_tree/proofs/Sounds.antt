@@ -11,7 +11,7 @@ use Rattle.tree_nodes.specs.declared.tree.ObjectTree.{ObjectTree}
 use Rattle.tree_nodes.specs.Nodes.{Kept, bare, child_link, link_names, find_link, insert_link}
 use Rattle.tree_nodes.specs.Entries.{entry_of, root_of, Has, LacksLink, Inserts}
 use Rattle.object_tree.specs.Grown.{LinksAscend}
-use Rattle.object_tree.specs.Sound.{IsSoundNode, LeadToNodes, IsSoundEntry, IsSoundTree}
+use Rattle.object_tree.specs.Sound.{IsSoundNode, LeadToNodes, IsSoundEntry, HasSoundNodes}
 use Rattle.object_tree.proofs.Growth.{some_is, not_none}
 
 -- ---- lists of links
@@ -59,7 +59,7 @@ entry_as kept e x is h = subst (IsSoundEntry kept) (some_is e x is) h
 bare_sound : (kept : ObjectTree) (n : Node) → IsSoundNode n → IsSoundEntry kept (bare n)
 bare_sound kept n sound = record { node = sound; ordered = tt; linked = tt }
 
-pub sound_root : (kept : ObjectTree) (n : Node) → IsSoundNode n → entry_of kept (root_of kept).key ≡ Some (bare n) → ((k : ℕ) → k ≢ (root_of kept).key → entry_of kept k ≡ None) → IsSoundTree kept
+pub sound_root : (kept : ObjectTree) (n : Node) → IsSoundNode n → entry_of kept (root_of kept).key ≡ Some (bare n) → ((k : ℕ) → k ≢ (root_of kept).key → entry_of kept k ≡ None) → HasSoundNodes kept
 sound_root kept n sound at others = record {
   root = some_there kept (root_of kept) (bare n) at;
   entries = λ key e is.
@@ -84,8 +84,8 @@ stays old new group name key n lacks ascend ins id has =
 entry_stays : (old new : ObjectTree) (e : Kept) → ((id : NodeId) → Has old id → Has new id) → IsSoundEntry old e → IsSoundEntry new e
 entry_stays old new e stay h = record { node = h.node; ordered = h.ordered; linked = lead_on old new e.links stay h.linked }
 
-pub sound_insert : (old new : ObjectTree) (group : NodeId) (name : Name) (key : ℕ) (n : Node) → LacksLink old group name → LinksAscend old group.key → Inserts old new group.key name key n → IsSoundNode n → IsSoundTree old
-    → IsSoundTree new
+pub sound_insert : (old new : ObjectTree) (group : NodeId) (name : Name) (key : ℕ) (n : Node) → LacksLink old group name → LinksAscend old group.key → Inserts old new group.key name key n → IsSoundNode n → HasSoundNodes old
+    → HasSoundNodes new
 sound_insert old new group name key n lacks ascend ins sound before =
     let stay = stays old new group name key n lacks ascend ins in
     let g = lacks.0 in

@@ -14,8 +14,7 @@ use Rattle.file_model.specs.Limits.{most_header, header_bytes, LeafFits, Fits, A
 use Rattle.h5_base.specs.declared.refusal.Refusal.{Refusal}
 use Rattle.file_model.specs.RefusedGroups.{IsTableRefused}
 use Rattle.file_model.specs.RefusedTree.{IsObjectRefused, AreLinksRefused}
-use Rattle.object_header.specs.declared.types.ObjectKind.{ObjectKind}
-use Rattle.object_header.specs.declared.types.ObjectKind.TheVariants as kind
+use Rattle.storage_reader.specs.declared.storage.Elements.{Elements}
 use Rattle.tree_nodes.specs.declared.node.Node.{Node}
 use Rattle.tree_nodes.specs.declared.node.Node.TheVariants as node
 use Rattle.tree_nodes.specs.declared.tree.ObjectTree.{ObjectTree}
@@ -23,6 +22,7 @@ use Rattle.tree_nodes.specs.Nodes.{Kept, bare, is_group, child_link, link_names,
 use Rattle.tree_nodes.specs.Entries.{superblock_of, root_of, entry_of, object_count}
 use Rattle.tree_nodes.specs.Shown.{Keyed, KeyedLinks, key_of, child_links, objects_of, objects_below, HasKey}
 use Rattle.tree_nodes.specs.Shown.{HasKeyBelow, AreDistinct, AreDistinctBelow, AreKept, AreKeptBelow}
+use Rattle.object_tree.specs.declared.growing.Table.{Table}
 use Rattle.object_tree.specs.Opened.{IsLeafNode, Matches, MatchesLinks}
 
 -- What stands under a key had no links, and has these now; all below them is new, and nothing else changed.
@@ -97,12 +97,20 @@ pub record IsOpenedAt (b : Array) (ks : Ks) (levels : ℕ) (target : Target) (t 
   pub depth : depth_to u ≤ levels
   pub same : Matches t u
 
--- the addresses of a group's B-tree and heap
-abbrev pub table_of : Node → Option (ℕ × ℕ)
-table_of (node.Group header tree heap) = Some (tree, heap)
+-- where a group's B-tree and heap are
+abbrev pub table_of : Node → Option Table
+table_of (node.Group header tree heap) = Some (record { tree_at = tree; heap_at = heap })
 table_of (node.Dataset header shape elem fill layout filtered) = None
 table_of (node.Soft text) = None
 table_of (node.Other header) = None
+
+-- these are the elements of the dataset
+abbrev pub HasParts : Node → Elements → Type 0
+HasParts (node.Dataset header shape elem fill layout filtered) e = (shape ≡ e.shape.now) × (elem ≡ e.elem)
+    × (layout ≡ e.layout.now) × (filtered ≡ e.filtered)
+HasParts (node.Group header tree heap) e = ⊥
+HasParts (node.Soft text) e = ⊥
+HasParts (node.Other header) e = ⊥
 
 -- A tree of a root with these links, and all below them.
 pub record HasRoot (kept : ObjectTree) (root : Node) (links : KeyedLinks) : Type 0 where
@@ -111,8 +119,3 @@ pub record HasRoot (kept : ObjectTree) (root : Node) (links : KeyedLinks) : Type
   pub distinct : AreDistinctBelow links
   pub apart : HasKeyBelow links (root_of kept).key → ⊥
   pub objects : object_count kept ≡ 1 + objects_below links
-
-abbrev pub table_of_kind : ObjectKind → Option (ℕ × ℕ)
-table_of_kind (kind.Group tree heap) = Some (tree, heap)
-table_of_kind (kind.Dataset shape elem fill layout filtered) = None
-table_of_kind kind.Other = None

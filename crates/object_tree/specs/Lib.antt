@@ -1,4 +1,3 @@
-pub mod KValues
 pub mod Opened
 pub mod Grown
 pub mod Sound

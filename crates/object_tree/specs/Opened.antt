@@ -1,9 +1,9 @@
 -- The tree that a file's bytes hold, as the program keeps it: each node with what the file holds there.
 -- Cited by `open_tree`, and by whatever works on an opened file.
-use Rattle.std.specs.Prelude.{◌≡◌}
+use Rattle.std.specs.Prelude.{◌≡◌, List}
 use Rattle.dtype.specs.Types.{size_of}
 use Rattle.outside.specs.Array.{Array}
-use Rattle.outside.specs.Blocks.{Bounds}
+use Rattle.outside.specs.Blocks.{Block, Bounds}
 use Rattle.object_model.specs.Tree.{Group, Leaf, Empty, Link}
 use Rattle.file_model.specs.Objects.{fill_bytes}
 use Rattle.file_model.specs.Holds.{GroupAt, DataAt, LeafAt, DataLeaf, SoftLeaf, OtherLeaf, Full, FullLinks, HoldsFull}
@@ -60,3 +60,7 @@ pub record IsOpened (b : Array) (e : Bounds) (kept : ObjectTree) : Type 0 where
   pub tree : Keyed
   pub shown : Shows kept tree
   pub same : Matches tree (Group root links)
+
+-- all blocks of an opened file
+abbrev pub file_blocks : {b : Array} {e : Bounds} {kept : ObjectTree} → IsOpened b e kept → List Block
+file_blocks {kept = kept} o = all_blocks (superblock_of kept) o.full.driver (Group o.root o.links)

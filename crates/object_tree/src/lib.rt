@@ -2,11 +2,9 @@
 #![tactic(auto)]
 
 mod growing;
-mod k_values;
 mod nodes;
 mod open;
 mod opening;
 
-pub use block_reader::TreeStop;
-pub use open::open_tree;
+pub use open::{TreeStop, open_tree};
 pub use tree_nodes::{ChildLink, Node, NodeId, ObjectTree};

@@ -1,26 +1,24 @@
-ghost use Rattle.std.specs.Prelude.{◌≡◌, ◌≤◌, ◌<◌, ◌++◌, ℕ, List, Option, IsTrue, IfOk, IfErr, IfSome, OnOk, OnErr};
+ghost use Rattle.std.specs.Prelude.{◌≡◌, ◌<◌, ◌++◌, ℕ, List, Option, false, IsTrue, IfOk, IfErr, IfSome, IfNone, OnOk};
 ghost use Rattle.std.specs.Prelude.{IsErrOf};
 ghost use Rattle.outside.specs.Blocks.{Block};
-ghost use Rattle.outside.specs.Causes.{Rose};
+ghost use Rattle.outside.specs.Causes.{OneRose};
 ghost use Rattle.outside.specs.Space.{bounds_of};
-ghost use Rattle.block_space.specs.Blocks.{Keeps, space_of};
+ghost use Rattle.block_space.specs.Blocks.{Keeps, Takes, Refuses, array_of, space_of};
 ghost use Rattle.h5_base.specs.Refusals.{refusal_of};
 ghost use Rattle.file_model.specs.RefusedTree.{IsRefusedWith, IsObjectRefused};
-ghost use Rattle.object_tree.specs.Grown.{IsNodeFound};
 ghost use Rattle.header_reader.specs.Found.{IsFound};
-ghost use Rattle.object_header.specs.Told.{IsSound};
+ghost use Rattle.header_reader.specs.Told.{IsSoundNode};
 ghost use Rattle.header_reader.specs.declared.reading.Header.TheVariants as Header;
-ghost use Rattle.object_tree.specs.KValues.{ks_of_values};
-ghost use Rattle.object_tree.specs.Sound.{IsSoundNode};
+ghost use Rattle.tree_nodes.specs.Nodes.{is_dataset};
+ghost use Rattle.object_tree.specs.Grown.{IsNodeFound, HasParts};
 
-use crate::k_values::KValues;
-use block_reader::TreeStop;
 use block_space::Blocks;
+use h5_base::{Refusal, Stop};
 use header_reader::{Header, read_header};
-use object_header::ObjectKind;
 use outside::Space;
 use std::alloc::Global;
-use storage_reader::adopt_storage;
+use storage_reader::{Elements, adopt_storage};
+use super_codec::KValues;
 use tree_nodes::Node;
 
 // So many objects a file has at most.
@@ -34,92 +32,85 @@ pub(crate) fn read_node<V: Space>(
     ks: KValues,
     at: u64,
     objects: u64,
-) -> Result<Node, TreeStop>
+) -> Result<Node, Stop>
     requires stands { V.Stands (space_of blocks.old) }
     requires listed { (met : List Block) × Keeps V.view blocks.old met }
-    ensures found { IsTrue V.tells → IfOk result (λ n. (met : List Block) → Keeps V.view blocks.old met
-        → (own : List Block) × IsNodeFound (V.view (space_of blocks.old)).array (ks_of_values ks) at n own
-        × Keeps V.view blocks.new (met ++ own)) }
+    ensures found { IsTrue V.tells → IfOk result
+        (λ n. Takes V.view blocks.old blocks.new (IsNodeFound (array_of V.view blocks.old) ks at n)) }
     ensures few { OnOk result (objects < 65536) }
     ensures sound { IfOk result IsSoundNode }
-    ensures refused { IsTrue V.tells → IfErr result (λ stop. (levels : ℕ) (met : List Block) (own : Option (List ℕ))
-        → Keeps V.view blocks.old met
-        → IfSome (refusal_of stop) (IsRefusedWith
-        (IsObjectRefused (V.view (space_of blocks.old)).array (bounds_of (V.view (space_of blocks.old)) own)
-        (ks_of_values ks) levels)
-        (V.view (space_of blocks.old)).array (bounds_of (V.view (space_of blocks.old)) own)
-        (ks_of_values ks) objects met at)) }
+    ensures refused { IsTrue V.tells → IfErr result (λ stop. (levels : ℕ) → Refuses V.view blocks.old (λ e met.
+        IsRefusedWith (IsObjectRefused (array_of V.view blocks.old) e ks levels) (array_of V.view blocks.old) e ks
+        objects met at) stop) }
     ensures alike { V.Alike (space_of blocks.old) (space_of blocks.new) }
-    ensures stands { (IsErrOf result TreeStop.Failed → ⊥) → V.Stands (space_of blocks.new) }
     ensures listed { OnOk result ((met : List Block) × Keeps V.view blocks.new met) }
-    ensures later { V.faults (space_of blocks.old) ≤ V.faults (space_of blocks.new) }
-    ensures cause { IsErrOf result TreeStop.Failed
-        → Rose (V.faults (space_of blocks.old)) (V.faults (space_of blocks.new)) }
+    ensures failed { IsErrOf result Stop.Failed
+        → OneRose (V.faults (space_of blocks.old)) (V.faults (space_of blocks.new)) }
 {
     if objects >= MOST_OBJECTS {
-        return Err(TreeStop::TooMany);
+        return Err(Stop::Refused {
+            why: Refusal::TooMany,
+        });
     }
     match read_header(alloc, blocks, at) {
         Ok(Header::Later) => Ok(Node::Other { header_at: at }),
-        Ok(Header::Known { kind }) => node_of(alloc, blocks, ks, at, kind),
+        Ok(Header::Known { node }) => match adopt_data(alloc, blocks, ks, &node) {
+            Ok(()) => Ok(node),
+            Err(stop) => Err(stop),
+        },
         Err(stop) => Err(stop),
     }
 }
 
-// The node of an object of this kind; what is stored of a dataset is taken into the catalogue.
-fn node_of<V: Space>(
+// Takes what is stored of a dataset into the catalogue, after its header; another object has nothing more.
+fn adopt_data<V: Space>(
     alloc: Global,
     blocks: &mut Blocks<V>,
     ks: KValues,
-    at: u64,
-    kind: ObjectKind,
-) -> Result<Node, TreeStop>
+    node: &Node,
+) -> Result<(), Stop>
     requires stands { V.Stands (space_of blocks.old) }
     requires listed { (met : List Block) × Keeps V.view blocks.old met }
-    requires sound { IsSound kind }
-    ensures found { IsTrue V.tells → IfOk result (λ n. (met bs : List Block)
-        → IsFound (V.view (space_of blocks.old)).array at (Header.Known kind) bs → Keeps V.view blocks.old (met ++ bs)
-        → (own : List Block) × IsNodeFound (V.view (space_of blocks.old)).array (ks_of_values ks) at n own
+    requires sound { IsSoundNode node.now }
+    ensures found { IsTrue V.tells → OnOk result ((at : ℕ) (met bs : List Block)
+        → IsFound (array_of V.view blocks.old) at (Header.Known node.now) bs → Keeps V.view blocks.old (met ++ bs)
+        → (own : List Block) × IsNodeFound (array_of V.view blocks.old) ks at node.now own
         × Keeps V.view blocks.new (met ++ own)) }
     ensures refused { IsTrue V.tells → IfErr result
-        (λ stop. (levels objects : ℕ) (met bs : List Block) (own : Option (List ℕ))
-        → IsFound (V.view (space_of blocks.old)).array at (Header.Known kind) bs → Keeps V.view blocks.old (met ++ bs)
+        (λ stop. (at levels objects : ℕ) (met bs : List Block) (own : Option (List ℕ))
+        → IsFound (array_of V.view blocks.old) at (Header.Known node.now) bs → Keeps V.view blocks.old (met ++ bs)
         → IfSome (refusal_of stop) (IsRefusedWith
-        (IsObjectRefused (V.view (space_of blocks.old)).array (bounds_of (V.view (space_of blocks.old)) own)
-        (ks_of_values ks) levels)
-        (V.view (space_of blocks.old)).array (bounds_of (V.view (space_of blocks.old)) own)
-        (ks_of_values ks) objects met at)) }
-    ensures sound { IfOk result IsSoundNode }
+        (IsObjectRefused (array_of V.view blocks.old) (bounds_of (V.view (space_of blocks.old)) own) ks levels)
+        (array_of V.view blocks.old) (bounds_of (V.view (space_of blocks.old)) own) ks objects met at)) }
     ensures alike { V.Alike (space_of blocks.old) (space_of blocks.new) }
-    ensures stands { (IsErrOf result TreeStop.Failed → ⊥) → V.Stands (space_of blocks.new) }
     ensures listed { OnOk result ((met : List Block) × Keeps V.view blocks.new met) }
-    ensures later { V.faults (space_of blocks.old) ≤ V.faults (space_of blocks.new) }
-    ensures cause { IsErrOf result TreeStop.Failed
-        → Rose (V.faults (space_of blocks.old)) (V.faults (space_of blocks.new)) }
+    ensures failed { IsErrOf result Stop.Failed
+        → OneRose (V.faults (space_of blocks.old)) (V.faults (space_of blocks.new)) }
 {
-    match kind {
-        ObjectKind::Group { tree_at, heap_at } => Ok(Node::Group {
-            header_at: at,
-            tree_at,
-            heap_at,
-        }),
-        ObjectKind::Other => Ok(Node::Other { header_at: at }),
-        ObjectKind::Dataset {
+    match elements_of(node) {
+        Some(elements) => adopt_storage(alloc, blocks, elements, ks.chunk),
+        None => Ok(()),
+    }
+}
+
+// The elements of a dataset; nothing of another object.
+fn elements_of(node: &Node) -> Option<Elements<'_>>
+    ensures parts { IfSome result (HasParts node.now) }
+    ensures none { IfNone result (is_dataset node.now ≡ false) }
+{
+    match node {
+        Node::Dataset {
             shape,
             elem,
-            fill,
             layout,
             filtered,
-        } => match adopt_storage(alloc, blocks, &shape, elem, &layout, filtered, ks.chunk) {
-            Ok(()) => Ok(Node::Dataset {
-                header_at: at,
-                shape,
-                elem,
-                fill,
-                layout,
-                filtered,
-            }),
-            Err(stop) => Err(stop),
-        },
+            ..
+        } => Some(Elements {
+            shape,
+            elem: *elem,
+            layout,
+            filtered: *filtered,
+        }),
+        _ => None,
     }
 }

@@ -6,7 +6,6 @@ use Rattle.file_model.specs.RefusedTree.{super_block}
 use Rattle.object_header.specs.declared.types.ObjectKind.{ObjectKind}
 use Rattle.object_header.specs.declared.types.ObjectKind.TheVariants as kind
 use Rattle.header_reader.specs.declared.reading.Header.TheVariants as header
-use Rattle.object_tree.specs.KValues.{ks_of_values}
 use Rattle.object_tree.proofs.NodesFound.{found_as}
 use Rattle.object_tree.proofs.Rooted.{kind_is, all_opened, all_refused, root_kind_refused, root_later_refused, root_header_refused}
 use Rattle.object_tree.proofs.open.open_root.Goals as goal
@@ -20,7 +19,7 @@ returns-in-Some-clause-opened g c = λ told spelled.
     let second = found_as g.V.Space.view c.args.blocks.now _ b at (header.Known c.in-Ok-Known.kind) (header.Known (kind.Group c.in-Some.tree_at c.in-Some.heap_at)) (ap (λ (k : ObjectKind). header.Known k) group) first in
     let same = g.met.V.Space.alike _ _ c.in-Ok-Known.ensures.alike in
     let now = sym (g.met.V.Space.alike _ _ (g.V.Kept.transitive _ _ _ c.in-Ok-Known.ensures.alike c.open_below.ensures.alike)) in
-    all_opened g.V.Space.view c.args.blocks.now _ _ (g.V.Space.view (space_of c.args.blocks.now)) _ (ks_of_values c.k_values-ks.result) c.args.superblock c.in-Some.tree_at c.in-Some.heap_at g.V.Space.tells c.open_below.result same now
+    all_opened g.V.Space.view c.args.blocks.now _ _ (g.V.Space.view (space_of c.args.blocks.now)) _ c.k_values-ks.result c.args.superblock c.in-Some.tree_at c.in-Some.heap_at g.V.Space.tells c.open_below.result same now
     c.k_values-ks.ensures told spelled c.requires.taken second c.open_below.ensures.superblock c.open_below.ensures.few c.open_below.ensures.opened
 
 pub returns-in-Some-clause-refused : goal.returns-in-Some-clause-refused
@@ -31,7 +30,7 @@ returns-in-Some-clause-refused g c = λ told spelled.
     let group = kind_is c.in-Ok-Known.kind c.in-Some.tree_at c.in-Some.heap_at (sym c.table_of_kind.ensures ∙ c.in-Some.is) in
     let second = found_as g.V.Space.view c.args.blocks.now _ b at (header.Known c.in-Ok-Known.kind) (header.Known (kind.Group c.in-Some.tree_at c.in-Some.heap_at)) (ap (λ (k : ObjectKind). header.Known k) group) first in
     let same = g.met.V.Space.alike _ _ c.in-Ok-Known.ensures.alike in
-    all_refused g.V.Space.view c.args.blocks.now _ (g.V.Space.view (space_of c.args.blocks.now)) _ (ks_of_values c.k_values-ks.result) c.args.superblock c.in-Some.tree_at c.in-Some.heap_at c.open_below.result same c.k_values-ks.ensures spelled
+    all_refused g.V.Space.view c.args.blocks.now _ (g.V.Space.view (space_of c.args.blocks.now)) _ c.k_values-ks.result c.args.superblock c.in-Some.tree_at c.in-Some.heap_at c.open_below.result same c.k_values-ks.ensures spelled
     c.requires.taken second (c.open_below.ensures.refused told)
 
 pub returns-in-Ok-Known-clause-refused : goal.returns-in-Ok-Known-clause-refused

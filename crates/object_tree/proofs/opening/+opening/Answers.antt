@@ -10,8 +10,7 @@ use Rattle.tree_nodes.specs.declared.node.Node.TheVariants as node
 use Rattle.tree_nodes.specs.Shown.{single}
 use Rattle.tree_nodes.specs.Entries.{LacksLink, object_count}
 use Rattle.object_tree.specs.Grown.{LinksAscend}
-use Rattle.object_tree.specs.KValues.{ks_of_values}
-use Rattle.object_tree.specs.Sound.{IsSoundTree}
+use Rattle.object_tree.specs.Sound.{HasSoundNodes}
 use Rattle.object_tree.proofs.Sounds.{sound_insert}
 use Rattle.object_tree.proofs.Growth.{grows_none, grows_more, last_link, adds_leaf}
 use Rattle.object_tree.proofs.SoFar.{all_links, lacks_link, next_link, so_far_none, so_far_more, refused_next, names_more, ascend_link}
@@ -28,7 +27,7 @@ open_each-loop-link-init g c = λ d. record {
   few = d.requires.few;
   sound = d.requires.sound;
   left = search rules;
-  opened = (Empty, grows_none d.args.tree.now d.args.group.key, refl, λ told. so_far_none g.V.Space.view d.args.blocks.now _ (ks_of_values d.args.ks) d.args.levels);
+  opened = (Empty, grows_none d.args.tree.now d.args.group.key, refl, λ told. so_far_none g.V.Space.view d.args.blocks.now _ d.args.ks d.args.levels);
 }
 
 pub open_each-open_link-requires : goal.open_each-open_link-requires
@@ -57,7 +56,7 @@ open_each-loop-link-preserved g c = λ d.
         last_link o.0 d.in-Some.link.name a.0,
         grows_more d.args.tree.now d.loop-link.tree _ d.args.group.key o.0 d.in-Some.link.name a.0 o.1 a.1 d.requires.bare (names_more d.args.links.items d.loop-link.yielded d.in-Some.link _ o.0 o.2 is d.requires.ordered).0,
         (names_more d.args.links.items d.loop-link.yielded d.in-Some.link _ o.0 o.2 is d.requires.ordered).1 a.0,
-        λ told. so_far_more g.V.Space.view d.args.blocks.now d.loop-link.blocks _ _ _ (ks_of_values d.args.ks) d.args.levels o.0 d.loop-link.yielded d.in-Some.link a.0 same (o.3 told) (a.2 told),
+        λ told. so_far_more g.V.Space.view d.args.blocks.now d.loop-link.blocks _ _ _ d.args.ks d.args.levels o.0 d.loop-link.yielded d.in-Some.link a.0 same (o.3 told) (a.2 told),
       );
     }
 
@@ -72,14 +71,14 @@ open_each-returns-in-Err-clause-refused g c = λ d told.
     let o = d.loop-link.invariant.opened in
     let is = next_link d.args.links.items d.loop-link.yielded _ d.in-Some.link _ d.loop-link.invariant.left d.in-Some.ensures.steps.0 in
     let same = g.met.V.Space.alike _ _ d.loop-link.invariant.alike in
-    refused_next g.V.Space.view d.args.blocks.now d.loop-link.blocks _ _ (ks_of_values d.args.ks) d.args.levels d.args.tree.now d.loop-link.tree d.args.group.key o.0 d.args.links.items d.loop-link.yielded d.in-Some.link _ d.in-Err.stop same is o.1 (o.3 told) (d.in-Err.ensures.refused told)
+    refused_next g.V.Space.view d.args.blocks.now d.loop-link.blocks _ _ d.args.ks d.args.levels d.args.tree.now d.loop-link.tree d.args.group.key o.0 d.args.links.items d.loop-link.yielded d.in-Some.link _ d.in-Err.stop same is o.1 (o.3 told) (d.in-Err.ensures.refused told)
 
 pub open_each-returns-in-Err-clause-alike : goal.open_each-returns-in-Err-clause-alike
 open_each-returns-in-Err-clause-alike g c = λ d. g.V.Kept.transitive _ _ _ d.loop-link.invariant.alike d.in-Err.ensures.alike
 
 pub open_link-returns-in-Object-clause-opened : goal.open_link-returns-in-Object-clause-opened
 open_link-returns-in-Object-clause-opened g c = λ d.
-    opened_to g.V.Space.view d.args.blocks.now _ d.args.tree.now _ (g.V.Space.view (space_of d.args.blocks.now)).array (ks_of_values d.args.ks) d.args.levels d.args.group.key d.args.link.name g.V.Space.tells (Header d.in-Object.header_at) _ d.open_object.result
+    opened_to g.V.Space.view d.args.blocks.now _ d.args.tree.now _ (g.V.Space.view (space_of d.args.blocks.now)).array d.args.ks d.args.levels d.args.group.key d.args.link.name g.V.Space.tells (Header d.in-Object.header_at) _ d.open_object.result
     (sym (ap target_of d.in-Object.is)) d.open_object.ensures.opened
 
 pub open_link-returns-in-Ok-clause-opened : goal.open_link-returns-in-Ok-clause-opened
@@ -88,7 +87,7 @@ open_link-returns-in-Ok-clause-opened g c = λ d. (
   adds_leaf d.args.tree.now d.add.new.tree d.args.group.key d.args.link.name d.in-Ok.field-0.key (node.Soft d.in-Soft.text) d.in-Ok.ensures.added,
   λ told met keeps. (
     Leaf (SoftLeaf d.in-Soft.text),
-    soft_opened_to (g.V.Space.view (space_of d.args.blocks.now)).array (ks_of_values d.args.ks) d.args.levels d.in-Ok.field-0.key d.in-Soft.text _ (sym (ap target_of d.in-Soft.is)),
+    soft_opened_to (g.V.Space.view (space_of d.args.blocks.now)).array d.args.ks d.args.levels d.in-Ok.field-0.key d.in-Soft.text _ (sym (ap target_of d.in-Soft.is)),
     keeps_none g.V.Space.view d.args.blocks.now met keeps,
   ),
 )
@@ -100,23 +99,23 @@ open_links-open_each-requires g c = λ d κs le.
 
 pub open_links-returns-in-Err-clause-refused : goal.open_links-returns-in-Err-clause-refused
 open_links-returns-in-Err-clause-refused g c = λ d told.
-    table_refused g.V.Space.view d.args.blocks.now (g.V.Space.view (space_of d.args.blocks.now)) (ks_of_values d.args.ks) d.args.levels _ d.args.tree_at d.args.heap_at d.in-Err.stop (d.in-Err.ensures.refused told d.args.ks.chunk)
+    table_refused g.V.Space.view d.args.blocks.now (g.V.Space.view (space_of d.args.blocks.now)) d.args.ks d.args.levels _ d.args.tree_at d.args.heap_at d.in-Err.stop (d.in-Err.ensures.refused told d.args.ks.chunk)
 
 pub open_links-returns-in-Ok-clause-opened : goal.open_links-returns-in-Ok-clause-opened
 open_links-returns-in-Ok-clause-opened g c = λ d.
     let same = ap (λ (v : SpaceView). v.array) (g.met.V.Space.alike _ _ d.in-Ok.ensures.alike) in
-    group_from g.V.Space.view d.args.blocks.now _ _ d.args.tree.now _ _ _ (ks_of_values d.args.ks) d.args.levels d.args.group.key d.args.tree_at d.args.heap_at g.V.Space.tells (map found_of d.in-Ok.links.items) d.open_each.result same
-    (λ told. table_read g.V.Space.view d.args.blocks.now _ _ (ks_of_values d.args.ks) d.args.tree_at d.args.heap_at (map found_of d.in-Ok.links.items) (d.in-Ok.ensures.found told d.args.ks.chunk) (d.in-Ok.ensures.small told)) d.open_each.ensures.opened
+    group_from g.V.Space.view d.args.blocks.now _ _ d.args.tree.now _ _ _ d.args.ks d.args.levels d.args.group.key d.args.tree_at d.args.heap_at g.V.Space.tells (map found_of d.in-Ok.links.items) d.open_each.result same
+    (λ told. table_read g.V.Space.view d.args.blocks.now _ _ d.args.ks d.args.tree_at d.args.heap_at (map found_of d.in-Ok.links.items) (d.in-Ok.ensures.found told d.args.ks.chunk) (d.in-Ok.ensures.small told)) d.open_each.ensures.opened
 
 pub open_links-returns-in-Ok-clause-refused : goal.open_links-returns-in-Ok-clause-refused
 open_links-returns-in-Ok-clause-refused g c = λ d told.
     let same = g.met.V.Space.alike _ _ d.in-Ok.ensures.alike in
-    each_refused g.V.Space.view d.args.blocks.now _ _ _ (ks_of_values d.args.ks) d.args.levels _ d.args.tree_at d.args.heap_at (map found_of d.in-Ok.links.items) d.open_each.result same
-    (table_read g.V.Space.view d.args.blocks.now _ _ (ks_of_values d.args.ks) d.args.tree_at d.args.heap_at (map found_of d.in-Ok.links.items) (d.in-Ok.ensures.found told d.args.ks.chunk) (d.in-Ok.ensures.small told)) (d.open_each.ensures.refused told)
+    each_refused g.V.Space.view d.args.blocks.now _ _ _ d.args.ks d.args.levels _ d.args.tree_at d.args.heap_at (map found_of d.in-Ok.links.items) d.open_each.result same
+    (table_read g.V.Space.view d.args.blocks.now _ _ d.args.ks d.args.tree_at d.args.heap_at (map found_of d.in-Ok.links.items) (d.in-Ok.ensures.found told d.args.ks.chunk) (d.in-Ok.ensures.small told)) (d.open_each.ensures.refused told)
 
 pub open_object-returns-in-Err-clause-refused : goal.open_object-returns-in-Err-clause-refused
 open_object-returns-in-Err-clause-refused g c = λ d told met own keeps.
-    refused_counted _ _ (ks_of_values d.args.ks) d.args.levels d.objects.result _ met d.args.at d.in-Err.stop d.objects.ensures.count (omega (arith, d.if-levels-eq0.false)) (d.in-Err.ensures.refused told (d.args.levels - 1) met own keeps)
+    refused_counted _ _ d.args.ks d.args.levels d.objects.result _ met d.args.at d.in-Err.stop d.objects.ensures.count (omega (arith, d.if-levels-eq0.false)) (d.in-Err.ensures.refused told (d.args.levels - 1) met own keeps)
 
 pub open_object-returns-in-None-clause-opened : goal.open_object-returns-in-None-clause-opened
 open_object-returns-in-None-clause-opened g c = λ d. (
@@ -124,7 +123,7 @@ open_object-returns-in-None-clause-opened g c = λ d. (
   adds_leaf d.args.tree.now d.add.new.tree d.args.group.key d.args.name d.in-Ok-add.id.key d.in-Ok.node d.in-Ok-add.ensures.added,
   λ told met keeps.
       let f = d.in-Ok.ensures.found told met keeps in
-      leaf_opened g.V.Space.view _ (g.V.Space.view (space_of d.args.blocks.now)).array (ks_of_values d.args.ks) d.args.levels d.args.at d.in-Ok-add.id.key d.in-Ok.node met f.0 (omega (arith, d.if-levels-eq0.false))
+      leaf_opened g.V.Space.view _ (g.V.Space.view (space_of d.args.blocks.now)).array d.args.ks d.args.levels d.args.at d.in-Ok-add.id.key d.in-Ok.node met f.0 (omega (arith, d.if-levels-eq0.false))
       (sym d.table_of-table.ensures ∙ d.in-None.is) f.1 f.2,
 )
 
@@ -132,14 +131,14 @@ pub open_object-returns-in-Some-clause-opened : goal.open_object-returns-in-Some
 open_object-returns-in-Some-clause-opened g c = λ d.
     let same = ap (λ (v : SpaceView). v.array) (g.met.V.Space.alike _ _ d.in-Ok.ensures.alike) in
     let there = there_is d.args.tree.now d.add.new.tree d.args.group d.args.name d.in-Ok-add.id.key d.in-Ok.node d.requires.lacks d.requires.ordered d.in-Ok-add.ensures.added in
-    object_from g.V.Space.view d.args.blocks.now _ _ d.args.tree.now d.add.new.tree _ _ _ (ks_of_values d.args.ks) d.args.levels d.args.at d.args.group.key d.in-Ok-add.id.key d.in-Some.tree_at d.in-Some.heap_at d.args.name d.in-Ok.node
+    object_from g.V.Space.view d.args.blocks.now _ _ d.args.tree.now d.add.new.tree _ _ _ d.args.ks d.args.levels d.args.at d.args.group.key d.in-Ok-add.id.key d.in-Some.tree_at d.in-Some.heap_at d.args.name d.in-Ok.node
     g.V.Space.tells d.open_links.result same (omega (arith, d.if-levels-eq0.false)) (sym d.table_of-table.ensures ∙ d.in-Some.is) there d.in-Ok-add.ensures.added d.in-Ok.ensures.found d.open_links.ensures.opened
 
 pub open_object-returns-in-Some-clause-refused : goal.open_object-returns-in-Some-clause-refused
 open_object-returns-in-Some-clause-refused g c = λ d told.
     let same = g.met.V.Space.alike _ _ d.in-Ok.ensures.alike in
     let table = sym d.table_of-table.ensures ∙ d.in-Some.is in
-    object_refused g.V.Space.view d.args.blocks.now _ _ _ (ks_of_values d.args.ks) d.args.levels _ _ d.args.at d.in-Some.tree_at d.in-Some.heap_at d.in-Ok.node d.open_links.result same (omega (arith, d.if-levels-eq0.false)) table
+    object_refused g.V.Space.view d.args.blocks.now _ _ _ d.args.ks d.args.levels _ _ d.args.at d.in-Some.tree_at d.in-Some.heap_at d.in-Ok.node d.open_links.result same (omega (arith, d.if-levels-eq0.false)) table
     (d.in-Ok-add.ensures.added.objects ∙ ap (λ k. object_count d.args.tree.now + k) (table_object d.in-Ok.node d.in-Some.tree_at d.in-Some.heap_at table)) (d.in-Ok.ensures.found told) (d.open_links.ensures.refused told)
 
 pub open_link-returns-in-Ok-clause-sound : goal.open_link-returns-in-Ok-clause-sound
@@ -148,7 +147,7 @@ open_link-returns-in-Ok-clause-sound g t c =
 
 pub open_object-open_links-requires : goal.open_object-open_links-requires
 open_object-open_links-requires g t c κs within =
-    let sound : IsSoundTree c.add.new.tree = sound_insert c.args.tree.now c.add.new.tree c.args.group c.args.name c.in-Ok-add.id.key c.in-Ok.node c.requires.lacks c.requires.ordered c.in-Ok-add.ensures.added c.in-Ok.ensures.sound c.requires.sound in
+    let sound : HasSoundNodes c.add.new.tree = sound_insert c.args.tree.now c.add.new.tree c.args.group c.args.name c.in-Ok-add.id.key c.in-Ok.node c.requires.lacks c.requires.ordered c.in-Ok-add.ensures.added c.in-Ok.ensures.sound c.requires.sound in
     search rules
 
 pub open_object-returns-in-None-clause-sound : goal.open_object-returns-in-None-clause-sound

@@ -6,9 +6,8 @@ use Rattle.group_reader.specs.Links.{found_of}
 use Rattle.object_model.specs.Tree.{names}
 use Rattle.tree_nodes.specs.Entries.{object_count}
 use Rattle.tree_nodes.specs.Shown.{KeyedLinks}
-use Rattle.object_tree.specs.KValues.{ks_of_values}
 use Rattle.object_tree.specs.Grown.{Grows, AreOpened}
-use Rattle.object_tree.specs.Sound.{IsSoundTree}
+use Rattle.object_tree.specs.Sound.{HasSoundNodes}
 use Rattle.object_tree.proofs.opening.+opening.Given as goal
 
 abbrev pub decreases-open_each : goal.decreases-open_each
@@ -30,10 +29,10 @@ invariant-open_each-loop-link g l = record {
   alike : g.V.Kept.Alike (space_of l.fn.blocks) (space_of l.blocks);
   later : g.V.Space.faults (space_of l.fn.blocks) ≤ g.V.Space.faults (space_of l.blocks);
   few : object_count l.tree ≤ 65536;
-  sound : IsSoundTree l.tree;
+  sound : HasSoundNodes l.tree;
   left : l.fn.links.items ≡ l.yielded ++ l.link-iterator.rest.items;
   opened : (kls : KeyedLinks) × Grows l.fn.tree l.tree l.group.key kls × (names kls ≡ map (λ x. x.name) l.yielded)
       × (IsTrue g.V.Space.tells → (met : List Block) → Keeps g.V.Space.view l.fn.blocks met → (ls : FullLinks)
-      × AreOpened (g.V.Space.view (space_of l.fn.blocks)).array (ks_of_values l.ks) l.levels kls ls
+      × AreOpened (g.V.Space.view (space_of l.fn.blocks)).array l.ks l.levels kls ls
       × (founds ls ≡ map found_of l.yielded) × Keeps g.V.Space.view l.blocks (met ++ blocks_in ls));
 }
