@@ -5,7 +5,7 @@ use Rattle.std.proofs.lemmas.List.FromFn.{length-map-range_with_len, take-map-ra
 use Rattle.outside.specs.Array.{Array, bytes_of}
 use Rattle.outside.specs.Blocks.{Block, AllInside}
 use Rattle.outside.specs.Space.{SpaceView, AreRegions, bounds_of}
-use Rattle.block_space.specs.Blocks.{Keeps, Refuses, Takes}
+use Rattle.block_space.specs.Blocks.{Keeps, Takes}
 use Rattle.block_space.specs.declared.blocks.Blocks.{Blocks}
 use Rattle.h5_base.specs.declared.refusal.Stop.{Stop}
 use Rattle.h5_base.specs.declared.refusal.Stop.TheVariants as stops

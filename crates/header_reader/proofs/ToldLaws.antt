@@ -1,5 +1,5 @@
 -- First messages tell at most one dataset, whose parts fit one another.
-use Rattle.std.proofs.Common.{◌≡◌, ℕ, zero, suc, ◌+◌, ◌*◌, ◌≤◌, ◌==◌, Bool, true, false, if◌then◌else◌, List, length, refl, ap, arith, Option, Some, None, sym, subst, ◌∙◌, inl, inr}
+use Rattle.std.proofs.Common.{◌≡◌, ℕ, zero, suc, ◌+◌, ◌*◌, ◌==◌, Bool, true, false, if◌then◌else◌, List, length, refl, ap, arith, Option, Some, None, sym, subst, ◌∙◌, inl, inr}
 use Rattle.h5_base.specs.Fields.{u64s_at}
 use Rattle.dtype.specs.Shapes.{IsShape, HasLength, SpellsShape, shape_of, rank_of, has_max}
 use Rattle.dtype.specs.Types.{IsElemType, SpellsType, size_of}

@@ -114,11 +114,7 @@ fn read_known<V: Space>(
 /// bytes are taken. `Unsupported` says that it has more than 1,048,576 bytes with its continuations, which is seen
 /// before the block that has the bytes past the limit is taken; `Malformed` names the header, or the address of a
 /// message in it.
-pub fn read_header<V: Space>(
-    alloc: Global,
-    blocks: &mut Blocks<V>,
-    at: u64,
-) -> Result<Header, Stop>
+pub fn read_header<V: Space>(alloc: Global, blocks: &mut Blocks<V>, at: u64) -> Result<Header, Stop>
     requires stands { V.Stands (space_of blocks.old) }
     requires listed { (met : List Block) × Keeps V.view blocks.old met }
     ensures found { IsTrue V.tells → IfOk result

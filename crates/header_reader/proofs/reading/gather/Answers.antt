@@ -1,10 +1,10 @@
 -- The parts of a header are met one after another; each begins with the block that waits first.
-use Rattle.std.proofs.Common.{◌++◌, ◌∷◌, [], refl, ap, map, arith}
+use Rattle.std.proofs.Common.{◌++◌, ◌∷◌, [], refl, ap, map}
 use Rattle.header_reader.specs.Walks.{block_of}
 use Rattle.header_reader.specs.declared.walk.Walk.{Walk}
 use Rattle.block_space.proofs.Stopped.{if_some}
 use Rattle.outside.proofs.Causes.{one_later}
-use Rattle.header_reader.proofs.Stops.{handed}
+use Rattle.header_reader.proofs.Stops.{handed, handed_from}
 use Rattle.header_reader.proofs.Parts.{Draws, walked_none, walked_more, walked_all, walked_early, walked_stop, fewer, kept_part, read_same}
 use Rattle.header_reader.proofs.reading.gather.Goals as goal
 
@@ -71,4 +71,5 @@ read_part-requires-clause-stands g c = g.met.V.Space.alike_stands _ _ c.parts.in
 
 pub returns-in_err-read_part-clause-failed : goal.returns-in_err-read_part-clause-failed
 returns-in_err-read_part-clause-failed g c =
-    λ failed. one_later _ _ _ (g.met.V.Space.goes_counts _ _ (g.met.V.Space.goes_alike _ _ c.parts.invariant.alike)) (c.read_part.ensures.failed ?)
+    λ failed. one_later _ _ _ (g.met.V.Space.goes_counts _ _ (g.met.V.Space.goes_alike _ _ c.parts.invariant.alike))
+    (c.read_part.ensures.failed (handed_from c.from_residual-in_err-read_part.result c.read_part.result c.in_err-read_part.field-0.0 _ c.from_residual-in_err-read_part.ensures.1 c.in_err-read_part.was failed))

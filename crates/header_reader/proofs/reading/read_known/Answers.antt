@@ -1,8 +1,7 @@
 -- Each stop of the header's own block or of its messages refuses the header.
-use Rattle.std.proofs.Common.{◌≡◌, ◌++◌, List, ap, sym, subst, arith}
+use Rattle.std.proofs.Common.{◌≡◌, ◌++◌, ap, sym, subst, arith}
 use Rattle.std.proofs.lemmas.Result.{IfOk-weaker}
-use Rattle.outside.specs.Blocks.{Block}
-use Rattle.block_space.specs.Blocks.{Keeps, space_of}
+use Rattle.block_space.specs.Blocks.{space_of}
 use Rattle.block_space.proofs.Stopped.{if_err, if_some, on_ok}
 use Rattle.file_model.specs.Headers.{header_blocks}
 use Rattle.header_reader.proofs.Stops.{handed}

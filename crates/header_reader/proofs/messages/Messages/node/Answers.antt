@@ -28,10 +28,12 @@ returns-in-Ok-clause-made c =
 
 pub returns-in-Err-Other-clause-made : goal.returns-in-Err-Other-clause-made
 returns-in-Err-Other-clause-made c =
-    λ ms h w. let none : c.self.inside.table ≡ None = grind arith in
-    (refl, other_made c.args.self.now ms (table_seen (firsts_of c.self.inside) c.args.self.now c.self.inside.table None c.self.view_is refl none)
-    (c.in-Err-Other.ensures.other (ap (λ s. Err s) c.in-Err-Other.field-0-is))
-    h)
+    λ ms h w. let none : c.self.inside.table ≡ None = grind arith in (
+      refl,
+      other_made c.args.self.now ms (table_seen (firsts_of c.self.inside) c.args.self.now c.self.inside.table None c.self.view_is refl none)
+          (c.in-Err-Other.ensures.other (ap (λ s. Err s) c.in-Err-Other.field-0-is))
+          h,
+    )
 
 pub returns-in-Ok-clause-sound : goal.returns-in-Ok-clause-sound
 returns-in-Ok-clause-sound c = sound_told c.args.self.now c.args.header_at c.in-Ok.node c.in-Ok.ensures.found
