@@ -181,7 +181,7 @@ message_not b e met at prefix parts later r h (LargeHeader before block ms m rea
     let blocks = ap (header_blocks at prefix) s.is ∙ blocks_split at prefix before s.rest s.part block (ms ++ m ∷ []) more.0 more.1 in
     let all : header_bytes at prefix parts ≡ met_bytes (so_far at prefix before block (ms ++ m ∷ []) ++ flat_map continued (more.0 ++ messages_of s.rest)) = ap met_bytes blocks in
     omega (arith, h.short, all, large, sum_front (so_far at prefix before block (ms ++ m ∷ [])) (flat_map continued (more.0 ++ messages_of s.rest)))
-message_not b e met at prefix parts later r h (BadContinuation before block ms m reading next kind refused) =
+message_not b e met at prefix parts later r h (BadContinuation before block ms m reading next kind small refused) =
     let s = split b (first_block at prefix ∷ []) prefix.messages before block reading.unread reading.wanted parts h.header.unread reading.before (omega (arith, reading.more)) h.header.met in
     let len = length-append ms (m ∷ []) in
     let more = reading_begins (bytes_of b block.start block.len) reading.wanted (ms ++ m ∷ []) s.part.messages next.stand (omega (arith, reading.more, len)) s.stand s.read in
@@ -216,9 +216,9 @@ header_not b e met at prefix parts later r header room short refused = go refuse
     go (PrefixBlock not h) = not_refused e met (record { start = at; len = 16 }) kind.Header r (free_less e met at (16 + prefix.size) 16 (omega arith) (omega arith) free) h
     go (NoPrefix not none line) = none prefix header.spelled
     go (LargeFirst p spelled large line) = let size = ap (λ (x : Prefix). x.size) (same p spelled) in omega (arith, size, large, first, short)
-    go (HeaderBlock p spelled h) =
+    go (HeaderBlock p spelled small h) =
         let h' = subst (λ (x : Prefix). IsBlockRefused e met (record { start = at; len = 16 + x.size }) kind.Header r) (same p spelled) h in
         not_refused e met (record { start = at; len = 16 + prefix.size }) kind.Header r free h'
-    go (InMessages p spelled h) =
+    go (InMessages p spelled small h) =
         let h' = subst (λ (x : Prefix). IsMessageRefused b e met at x r) (same p spelled) h in
         message_not b e met at prefix parts later r (record { header = header; room = room; short = short }) h'

@@ -46,8 +46,8 @@ later_not b e met at later r is room refused = go refused
     go (PrefixBlock not h) = not is
     go (NoPrefix not none line) = not is
     go (LargeFirst p spelled large line) = wrong p spelled
-    go (HeaderBlock p spelled h) = wrong p spelled
-    go (InMessages p spelled h) = wrong p spelled
+    go (HeaderBlock p spelled small h) = wrong p spelled
+    go (InMessages p spelled small h) = wrong p spelled
 
 -- ---- what an object at an address is
 

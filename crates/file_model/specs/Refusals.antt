@@ -40,8 +40,8 @@ pub record IsNext (b : Array) (block : Block) (ms : List Met) (m : Met) : Type 0
   pub stand : Stand (bytes_of b block.start block.len) 0 (ms ++ m ∷ [])
   pub whole : AreWhole (m ∷ [])
 
--- A message, or the block that a continuation names, is refused; or the blocks end before so many messages were met as
--- the prefix counts.
+-- A message, or the block that a continuation names, is refused, the limit on all bytes of the header before the block
+-- itself; or the blocks end before so many messages were met as the prefix counts.
 pub data IsMessageRefused (b : Array) (e : Bounds) (met : List Block) (at : ℕ) (prefix : Prefix)
     (r : Refusal) : Type 0 where
   EndedEarly : (parts : List Part) (wanted : ℕ) → AreMet b (first_block at prefix ∷ []) prefix.messages parts [] wanted
@@ -57,10 +57,12 @@ pub data IsMessageRefused (b : Array) (e : Bounds) (met : List Block) (at : ℕ)
       → IsMessageRefused b e met at prefix r
   BadContinuation : (parts : List Part) (block : Block) (ms : List Met) (m : Met) → IsReading b at prefix parts block ms
       → IsNext b block ms m → m.kind ≡ 0x10
+      → met_bytes (so_far at prefix parts block (ms ++ m ∷ [])) ≤ most_header
       → IsPlacedRefused e (met ++ so_far at prefix parts block ms) (u64_at m.body 0) (u64_at m.body 8) kind.Header r
       → IsMessageRefused b e met at prefix r
 
--- The header of an object is refused: by the 4 bytes of a later version, by the 16 of its prefix, or by all of it.
+-- The header of an object is refused: by the 4 bytes of a later version, by the 16 of its prefix, by its size, by its
+-- block, or in its messages.
 pub data IsHeaderRefused (b : Array) (e : Bounds) (met : List Block) (at : ℕ) (r : Refusal) : Type 0 where
   LaterHeader : bytes_of b at 4 ≡ later_header → IsBlockRefused e met (record { start = at; len = 4 }) kind.Header r
       → IsHeaderRefused b e met at r
@@ -70,8 +72,8 @@ pub data IsHeaderRefused (b : Array) (e : Bounds) (met : List Block) (at : ℕ) 
       → r ≡ Malformed at kind.Header → IsHeaderRefused b e met at r
   LargeFirst : (prefix : Prefix) → SpellsPrefix prefix (bytes_of b at 16) → most_header < 16 + prefix.size
       → r ≡ Unsupported what.Header → IsHeaderRefused b e met at r
-  HeaderBlock : (prefix : Prefix) → SpellsPrefix prefix (bytes_of b at 16)
+  HeaderBlock : (prefix : Prefix) → SpellsPrefix prefix (bytes_of b at 16) → 16 + prefix.size ≤ most_header
       → IsBlockRefused e met (record { start = at; len = 16 + prefix.size }) kind.Header r
       → IsHeaderRefused b e met at r
-  InMessages : (prefix : Prefix) → SpellsPrefix prefix (bytes_of b at 16) → IsMessageRefused b e met at prefix r
-      → IsHeaderRefused b e met at r
+  InMessages : (prefix : Prefix) → SpellsPrefix prefix (bytes_of b at 16) → 16 + prefix.size ≤ most_header
+      → IsMessageRefused b e met at prefix r → IsHeaderRefused b e met at r

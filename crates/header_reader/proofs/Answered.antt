@@ -5,10 +5,10 @@ use Rattle.std.proofs.lemmas.List.FromFn.{length-map-range_with_len, take-map-ra
 use Rattle.outside.specs.Array.{Array, bytes_of}
 use Rattle.outside.specs.Blocks.{Block, AllInside}
 use Rattle.outside.specs.Space.{SpaceView, AreRegions, bounds_of}
-use Rattle.block_space.specs.Blocks.{Keeps}
+use Rattle.block_space.specs.Blocks.{Keeps, Takes}
 use Rattle.block_space.specs.declared.blocks.Blocks.{Blocks}
-use Rattle.block_reader.specs.declared.stop.TreeStop.{TreeStop}
-use Rattle.block_reader.specs.declared.stop.TreeStop.TheVariants as stops
+use Rattle.h5_base.specs.declared.refusal.Stop.{Stop}
+use Rattle.h5_base.specs.declared.refusal.Stop.TheVariants as stops
 use Rattle.h5_base.specs.Refusals.{refusal_of}
 use Rattle.h5_base.specs.declared.kinds.BlockKind.TheVariants as kind
 use Rattle.h5_base.specs.declared.kinds.What.TheVariants as what
@@ -20,8 +20,8 @@ use Rattle.h5_base.specs.declared.refusal.Refusal.{Refusal}
 use Rattle.h5_base.specs.declared.refusal.Refusal.TheVariants.{Malformed, Unsupported}
 use Rattle.outside.specs.Blocks.{IsBlockRefused}
 use Rattle.file_model.specs.Refusals.{IsMessageRefused, IsHeaderRefused, LaterHeader, PrefixBlock, NoPrefix, LargeFirst, HeaderBlock, InMessages}
-use Rattle.object_header.specs.Firsts.{Firsts}
-use Rattle.object_header.specs.Gathered.{Gathers}
+use Rattle.header_reader.specs.Firsts.{Firsts}
+use Rattle.header_reader.specs.Gathered.{Gathers}
 use Rattle.header_reader.specs.declared.reading.Header.{Header}
 use Rattle.header_reader.specs.declared.reading.Header.TheVariants.{Later}
 use Rattle.header_reader.specs.Found.{IsFound}
@@ -34,33 +34,33 @@ pub large_first : (v : SpaceView) (own : Option (List ℕ)) (met : List Block) (
     → IsHeaderRefused v.array (bounds_of v own) met at (Unsupported what.Header)
 large_first v own met at prefix h large = LargeFirst prefix h.spelled large refl
 
-pub header_block : (v : SpaceView) (own : Option (List ℕ)) (met : List Block) (at : ℕ) (prefix : Prefix) (r : Refusal) → HasPrefix v.array at prefix
+pub header_block : (v : SpaceView) (own : Option (List ℕ)) (met : List Block) (at : ℕ) (prefix : Prefix) (r : Refusal) → HasPrefix v.array at prefix → 16 + prefix.size ≤ most_header
     → IsBlockRefused (bounds_of v own) met (record { start = at; len = 16 + prefix.size }) kind.Header r → IsHeaderRefused v.array (bounds_of v own) met at r
-header_block v own met at prefix r h refused = HeaderBlock prefix h.spelled refused
+header_block v own met at prefix r h small refused = HeaderBlock prefix h.spelled small refused
 
-pub in_messages : (v w : SpaceView) (own : Option (List ℕ)) (met : List Block) (at : ℕ) (prefix : Prefix) (r : Refusal) → v ≡ w → HasPrefix v.array at prefix
+pub in_messages : (v w : SpaceView) (own : Option (List ℕ)) (met : List Block) (at : ℕ) (prefix : Prefix) (r : Refusal) → v ≡ w → HasPrefix v.array at prefix → 16 + prefix.size ≤ most_header
     → IsMessageRefused w.array (bounds_of w own) met at prefix r → IsHeaderRefused v.array (bounds_of v own) met at r
-in_messages v w own met at prefix r same h refused =
-    InMessages prefix h.spelled (subst (λ (y : SpaceView). IsMessageRefused y.array (bounds_of y own) met at prefix r) (sym same) refused)
+in_messages v w own met at prefix r same h small refused =
+    InMessages prefix h.spelled small (subst (λ (y : SpaceView). IsMessageRefused y.array (bounds_of y own) met at prefix r) (sym same) refused)
 
-pub known_found : {V : Type 0} (view : V → SpaceView) (old mid new : Blocks V) (at : ℕ) (prefix : Prefix) (messages : Firsts) (x : Header) → view old.space ≡ view mid.space → HasPrefix (view old.space).array at prefix
-    → ((met : List Block) → Keeps view old met → Keeps view mid (met ++ record { start = at; len = 16 + prefix.size } ∷ []))
-    → (parts : List Part) × IsGathered (view mid.space).array at prefix messages parts × ((met : List Block) → Keeps view mid (met ++ record { start = at; len = 16 + prefix.size } ∷ []) → Keeps view new (met ++ header_blocks at prefix parts))
-    → ((b : Array) (at : ℕ) (prefix : Prefix) (parts : List Part) → IsHeader b at prefix parts → Gathers messages (messages_of parts) → AreWhole (messages_of parts) → header_bytes at prefix parts ≤ most_header
+pub known_found : {V : Type 0} (view : V → SpaceView) (old mid new : Blocks V) (at : ℕ) (prefix : Prefix) (messages : Firsts) (x : Header) (parts : List Part) → view old.space ≡ view mid.space
+    → HasPrefix (view old.space).array at prefix → IsGathered (view mid.space).array at prefix messages parts
+    → ((met : List Block) → Keeps view old met → Keeps view new (met ++ header_blocks at prefix parts))
+    → ((b : Array) (prefix : Prefix) (parts : List Part) → IsHeader b at prefix parts → Gathers messages (messages_of parts) → AreWhole (messages_of parts) → header_bytes at prefix parts ≤ most_header
     → IsFound b at x (header_blocks at prefix parts))
-    → (met : List Block) → Keeps view old met → (bs : List Block) × IsFound (view old.space).array at x bs × Keeps view new (met ++ bs)
-known_found view old mid new at prefix messages x same h kept f made = λ met keeps.
+    → Takes view old new (IsFound (view old.space).array at x)
+known_found view old mid new at prefix messages x parts same h met_all kept made = λ met keeps.
     let b = (view old.space).array in
-    let g = subst (λ (v : SpaceView). IsGathered v.array at prefix messages f.0) (sym same) f.1 in
-    (header_blocks at prefix f.0, made b at prefix f.0 (record { spelled = h.spelled; unread = g.unread; met = g.met }) g.gathered g.whole g.short, f.2 met (kept met keeps))
+    let g = subst (λ (v : SpaceView). IsGathered v.array at prefix messages parts) (sym same) met_all in
+    (header_blocks at prefix parts, made b prefix parts (record { spelled = h.spelled; unread = g.unread; met = g.met }) g.gathered g.whole g.short, kept met keeps)
 
 -- want of memory refuses no file
-pub memory_only : (stop : TreeStop) (IsRefused : Refusal → Type 0) → stop ≡ stops.NoMemory → IfSome (refusal_of stop) IsRefused
-memory_only stop IsRefused is = subst (λ (s : TreeStop). IfSome (refusal_of s) IsRefused) (sym is) tt
+pub memory_only : (stop : Stop) (IsRefused : Refusal → Type 0) → stop ≡ stops.NoMemory → IfSome (refusal_of stop) IsRefused
+memory_only stop IsRefused is = subst (λ (s : Stop). IfSome (refusal_of s) IsRefused) (sym is) tt
 
 -- ---- over a space that is alike
 
-pub part_refused : {V T : Type 0} (view : V → SpaceView) (old mid : Blocks V) (r : Result T TreeStop) (total start len wanted : ℕ) (bytes : List ℕ) → view old.space ≡ view mid.space
+pub part_refused : {V T : Type 0} (view : V → SpaceView) (old mid : Blocks V) (r : Result T Stop) (total start len wanted : ℕ) (bytes : List ℕ) → view old.space ≡ view mid.space
     → ((met : List Block) → Keeps view old met → Keeps view mid met) → bytes ≡ bytes_of (view old.space).array start len
     → IfErr r (λ stop. (met : List Block) (own : Option (List ℕ)) → Keeps view mid met → IfSome (refusal_of stop) (IsBlockStop (bounds_of (view mid.space) own) met total start bytes wanted))
     → IfErr r (λ stop. (met : List Block) (own : Option (List ℕ)) → Keeps view old met → IfSome (refusal_of stop) (IsBlockStop (bounds_of (view old.space) own) met total start (bytes_of (view old.space).array start len) wanted))
@@ -69,14 +69,14 @@ part_refused view old mid (Err stop) total start len wanted bytes same kept is h
     λ met own keeps. subst (λ (l : List ℕ). IfSome (refusal_of stop) (IsBlockStop (bounds_of (view old.space) own) met total start l wanted)) is
     (subst (λ (v : SpaceView). IfSome (refusal_of stop) (IsBlockStop (bounds_of v own) met total start bytes wanted)) (sym same) (h met own (kept met keeps)))
 
-pub found_same : {V : Type 0} (view : V → SpaceView) (old mid new : Blocks V) (at : ℕ) (r : Result Header TreeStop) → view old.space ≡ view mid.space → ((met : List Block) → Keeps view old met → Keeps view mid met)
+pub found_same : {V : Type 0} (view : V → SpaceView) (old mid new : Blocks V) (at : ℕ) (r : Result Header Stop) → view old.space ≡ view mid.space → ((met : List Block) → Keeps view old met → Keeps view mid met)
     → IfOk r (λ x. (met : List Block) → Keeps view mid met → (bs : List Block) × IsFound (view mid.space).array at x bs × Keeps view new (met ++ bs))
     → IfOk r (λ x. (met : List Block) → Keeps view old met → (bs : List Block) × IsFound (view old.space).array at x bs × Keeps view new (met ++ bs))
 found_same view old mid new at (Ok x) same kept h =
     λ met keeps. let f = h met (kept met keeps) in (f.0, subst (λ (v : SpaceView). IsFound v.array at x f.0) (sym same) f.1, f.2)
 found_same view old mid new at (Err stop) same kept h = h
 
-pub refused_same : {V : Type 0} (view : V → SpaceView) (old mid : Blocks V) (at : ℕ) (r : Result Header TreeStop) → view old.space ≡ view mid.space → ((met : List Block) → Keeps view old met → Keeps view mid met)
+pub refused_same : {V : Type 0} (view : V → SpaceView) (old mid : Blocks V) (at : ℕ) (r : Result Header Stop) → view old.space ≡ view mid.space → ((met : List Block) → Keeps view old met → Keeps view mid met)
     → IfErr r (λ stop. (met : List Block) (own : Option (List ℕ)) → Keeps view mid met → IfSome (refusal_of stop) (IsHeaderRefused (view mid.space).array (bounds_of (view mid.space) own) met at))
     → IfErr r (λ stop. (met : List Block) (own : Option (List ℕ)) → Keeps view old met → IfSome (refusal_of stop) (IsHeaderRefused (view old.space).array (bounds_of (view old.space) own) met at))
 refused_same view old mid at (Ok x) same kept h = h
@@ -124,7 +124,7 @@ decide (x ∷ xs) (y ∷ ys) = go (cases_eq x y) (decide xs ys)
     go (inl a) (inr b) = inr (λ e. b (let tail : xs ≡ ys = cc in tail))
 
 -- where no prefix is spelled
-pub prefix_refused : (v : SpaceView) (own : Option (List ℕ)) (met : List Block) (at n : ℕ) (items : List ℕ) (r : Refusal) → AreRegions v → AllInside (bounds_of v own) met → AreFirst v.array at n items
+pub prefix_refused : (v : SpaceView) (own : Option (List ℕ)) (met : List Block) (at n : ℕ) (items : List ℕ) (r : Refusal) → AreRegions v.regions v.ends → AllInside (bounds_of v own) met → AreFirst v.array at n items
     → ((4 ≤ length items) × (take 4 items ≡ later_header) → ⊥) → ((p : Prefix) → SpellsPrefix p items → ⊥)
     → IsBlockRefused (bounds_of v own) met (record { start = at; len = 16 }) kind.Header r ⊎ ((at + 16 < 2 ^ 64) × (r ≡ Malformed at kind.Header)) → IsHeaderRefused v.array (bounds_of v own) met at r
 prefix_refused v own met at n items r sound all first later none (inr why) =

@@ -1,5 +1,5 @@
 -- One message more: what it names, and why it is refused.
-use Rattle.std.proofs.Common.{◌≡◌, ◌⊎◌, ℕ, zero, suc, ◌+◌, ◌-◌, ◌<◌, ◌≤◌, ◌==◌, false, List, [], ◌∷◌, ◌++◌, length, map, take, drop, Option, Some, None, IfSome, Result, Ok, Err, IfErr, refl, sym, ◌∙◌, ap, subst, arith}
+use Rattle.std.proofs.Common.{◌≡◌, ◌⊎◌, ℕ, zero, suc, ◌+◌, ◌-◌, ◌<◌, ◌≤◌, ◌==◌, false, List, [], ◌∷◌, ◌++◌, length, map, take, drop, Option, IfSome, Result, Ok, Err, IfErr, refl, sym, ◌∙◌, ap, subst, arith}
 use Rattle.std.specs.List.{flat_map}
 use Rattle.std.proofs.lemmas.Bool.Decides.{nat_tests}
 use Rattle.std.proofs.lemmas.List.{append_assoc, append-nil, flat_map_more, map-append, length-append, length-drop, length-take-le}
@@ -11,7 +11,8 @@ use Rattle.outside.specs.Blocks.{Block, Bounds, placed}
 use Rattle.outside.specs.Space.{SpaceView, bounds_of}
 use Rattle.block_space.specs.Blocks.{Keeps}
 use Rattle.block_space.specs.declared.blocks.Blocks.{Blocks}
-use Rattle.block_reader.specs.declared.stop.TreeStop.{TreeStop}
+use Rattle.h5_base.specs.declared.refusal.Stop.{Stop}
+use Rattle.block_space.proofs.Stopped.{if_some}
 use Rattle.h5_base.specs.Refusals.{refusal_of}
 use Rattle.header_codec.specs.Headers.{SpellsMessage}
 use Rattle.header_codec.specs.declared.types.Message.{Message}
@@ -19,13 +20,9 @@ use Rattle.file_model.specs.Headers.{Met, Stand, after, AreWhole, continued}
 use Rattle.h5_base.specs.declared.refusal.Refusal.{Refusal}
 use Rattle.file_model.specs.Refusals.{met_bytes}
 use Rattle.file_model.specs.Limits.{most_header}
-use Rattle.object_header.specs.Gathered.{Gathers}
+use Rattle.header_reader.specs.Gathered.{Gathers}
 use Rattle.header_reader.specs.declared.walk.Walk.{Walk}
 use Rattle.header_reader.specs.Walks.{IsNameRefused, TooLarge, BadBlock, IsMessageAt, IsStepRefused, LargeHeader, BadContinuation, Meets, IsBlockStop, block_of, waiting_of}
-
-pub if_some : {A : Type 0} (o : Option A) (P Q : A → Type 0) → ((a : A) → P a → Q a) → IfSome o P → IfSome o Q
-if_some None P Q f h = tt
-if_some (Some a) P Q f h = f a h
 
 -- a placed block has so many bytes
 pub placed_bytes : (start len : ℕ) → met_bytes (placed start len) ≡ len
@@ -46,7 +43,7 @@ waits_none old new start (suc n) none is = absurd (omega (arith, none))
 pub named_bytes : (m : Met) → m.kind ≡ 0x10 → met_bytes (continued m) ≡ u64_at m.body 8
 named_bytes m is = let e : continued m ≡ placed (u64_at m.body 0) (u64_at m.body 8) = rw is refl in ap met_bytes e ∙ placed_bytes (u64_at m.body 0) (u64_at m.body 8)
 
-pub all_named : {V T : Type 0} (view : V → SpaceView) (old : Blocks V) (total start len kind : ℕ) (r : Result T TreeStop) → kind ≡ 0x10
+pub all_named : {V T : Type 0} (view : V → SpaceView) (old : Blocks V) (total start len kind : ℕ) (r : Result T Stop) → kind ≡ 0x10
     → IfErr r (λ stop. (met : List Block) (own : Option (List ℕ)) → Keeps view old met → IfSome (refusal_of stop) (IsNameRefused (bounds_of (view old.space) own) met total start len))
     → IfErr r (λ stop. (met : List Block) (own : Option (List ℕ)) → Keeps view old met → IfSome (refusal_of stop) (λ x. (kind ≡ 0x10) × IsNameRefused (bounds_of (view old.space) own) met total start len x))
 all_named view old total start len kind (Ok x) is h = h
@@ -81,7 +78,7 @@ message_end bytes place message m h here =
 pub step_refused : (e : Bounds) (met : List Block) (total start : ℕ) (bytes : List ℕ) (place : ℕ) (m : Met) (r : Refusal) → IsMessageAt bytes place m
     → (m.kind ≡ 0x10) × IsNameRefused e met total (u64_at m.body 0) (u64_at m.body 8) r → IsStepRefused e met total start bytes place r
 step_refused e met total start bytes place m r here (is, TooLarge large line) = LargeHeader m here (omega (arith, large, named_bytes m is)) line
-step_refused e met total start bytes place m r here (is, BadBlock h) = BadContinuation m here is h
+step_refused e met total start bytes place m r here (is, BadBlock small h) = BadContinuation m here is (omega (arith, small, named_bytes m is)) h
 
 pub meets_one : (old mid new : Walk) (m : Met) → mid.messages ≡ old.messages → ((ms : List Met) → Gathers mid.messages ms → Gathers new.messages (ms ++ m ∷ []))
     → waiting_of new ≡ waiting_of old ++ continued m → new.wanted + 1 ≡ old.wanted → new.total ≡ old.total + met_bytes (continued m) → new.total ≤ most_header → Meets old new (m ∷ [])

@@ -23,8 +23,8 @@ use Rattle.outside.specs.Blocks.{IsPlacedRefused}
 use Rattle.file_model.specs.Refusals.{EndedEarly, IsReading, IsNext, IsMessageRefused, met_bytes}
 use Rattle.file_model.specs.Refusals.{BadMessage as RefusedMessage, LargeHeader as RefusedLarge, BadContinuation as RefusedContinuation}
 use Rattle.file_model.proofs.NoHeader.{messages_so_far}
-use Rattle.object_header.specs.Firsts.{Firsts}
-use Rattle.object_header.specs.Gathered.{Gathers}
+use Rattle.header_reader.specs.Firsts.{Firsts}
+use Rattle.header_reader.specs.Gathered.{Gathers}
 use Rattle.header_reader.specs.declared.walk.Walk.{Walk}
 use Rattle.header_reader.specs.Walks.{IsMessageAt, AreMessages, IsStepRefused, BadMessage, LargeHeader, BadContinuation, IsBlockStop, Meets, IsWalked, IsGathered, block_of, waiting_of}
 use Rattle.header_reader.proofs.Following.{stand_next, stand_back, whole_more}
@@ -82,19 +82,19 @@ walked_none tells b at prefix walk short gathered waiting wanted total = record 
 }
 
 -- the next block was taken from those that wait
-pub record Takes (old mid : Walk) (x : Block) : Type 0 where
+pub record Draws (old mid : Walk) (x : Block) : Type 0 where
   pub waiting : waiting_of old ≡ x ∷ waiting_of mid
   pub messages : mid.messages ≡ old.messages
   pub wanted : mid.wanted ≡ old.wanted
   pub total : mid.total ≡ old.total
 
-before_of : (b : Array) (at : ℕ) (prefix : Prefix) (parts : List Part) (old mid : Walk) (x : Block) → Takes old mid x → AreMet b (first_block at prefix ∷ []) prefix.messages parts (waiting_of old) old.wanted
+before_of : (b : Array) (at : ℕ) (prefix : Prefix) (parts : List Part) (old mid : Walk) (x : Block) → Draws old mid x → AreMet b (first_block at prefix ∷ []) prefix.messages parts (waiting_of old) old.wanted
     → AreMet b (first_block at prefix ∷ []) prefix.messages parts (x ∷ waiting_of mid) mid.wanted
 before_of b at prefix parts old mid x takes h =
     subst (λ (l : List Block). AreMet b (first_block at prefix ∷ []) prefix.messages parts l mid.wanted) takes.waiting
     (subst (λ (n : ℕ). AreMet b (first_block at prefix ∷ []) prefix.messages parts (waiting_of old) n) (sym takes.wanted) h)
 
-pub walked_more : (tells : Bool) (b : Array) (at : ℕ) (prefix : Prefix) (parts : List Part) (old mid new : Walk) (x : Block) (ms : List Met) → IsWalked tells b at prefix parts old → Takes old mid x → 0 < old.wanted
+pub walked_more : (tells : Bool) (b : Array) (at : ℕ) (prefix : Prefix) (parts : List Part) (old mid new : Walk) (x : Block) (ms : List Met) → IsWalked tells b at prefix parts old → Draws old mid x → 0 < old.wanted
     → (IsTrue tells → AreMessages (bytes_of b x.start x.len) mid.wanted ms) → AreWhole ms → Meets mid new ms → IsWalked tells b at prefix (parts ++ record { block = x; messages = ms } ∷ []) new
 walked_more tells b at prefix parts old mid new x ms h takes some read whole meets =
     let all = parts ++ record { block = x; messages = ms } ∷ [] in
@@ -125,7 +125,7 @@ named_few (m ∷ ms) =
     omega (arith, one, named_few ms, length-append (continued m) (flat_map continued ms))
 
 -- of the messages that are wanted and the blocks that wait, there are fewer
-pub fewer : (old mid new : Walk) (x : Block) (ms : List Met) → Takes old mid x → Meets mid new ms → length new.waiting.items + new.wanted < length old.waiting.items + old.wanted
+pub fewer : (old mid new : Walk) (x : Block) (ms : List Met) → Draws old mid x → Meets mid new ms → length new.waiting.items + new.wanted < length old.waiting.items + old.wanted
 fewer old mid new x ms takes meets =
     let a : length (waiting_of old) ≡ suc (length (waiting_of mid)) = ap length takes.waiting in
     let c : length (waiting_of new) ≡ length (waiting_of mid) + length (flat_map continued ms) = ap length meets.waiting ∙ length-append (waiting_of mid) (flat_map continued ms) in
@@ -169,18 +169,21 @@ message_stop b e met at prefix parts x left wanted total r before sum h = go h.s
     next : (m : Met) → IsMessageAt bytes (after 0 h.ms) m → IsNext b x h.ms m
     next m here = record { stand = stand_next bytes (after 0 h.ms) h.ms m h.stand refl here; whole = (here.whole, tt) }
 
+    -- the bytes with those that one message more names
+    named_sum : (m : Met) → header_bytes at prefix (parts ++ record { block = x; messages = h.ms ++ m ∷ [] } ∷ []) ≡ header_bytes at prefix parts + met_bytes (flat_map continued h.ms) + met_bytes (continued m)
+    named_sum m =
+        let one : flat_map continued (m ∷ []) ≡ continued m = append-nil (continued m) in
+        let named = ap met_bytes (flat_map-append continued h.ms (m ∷ []) ∙ ap (λ (l : List Block). flat_map continued h.ms ++ l) one) in
+        omega (arith, bytes_more at prefix parts x (h.ms ++ m ∷ []), named, sum_by-append (λ (y : Block). y.len) (flat_map continued h.ms) (continued m))
+
     go : IsStepRefused e ((met ++ header_blocks at prefix parts) ++ flat_map continued h.ms) (total + met_bytes (flat_map continued h.ms)) x.start bytes (after 0 h.ms) r → IsMessageRefused b e met at prefix r
     go (BadMessage none line) =
         RefusedMessage parts x h.ms reading (omega (arith, h.room, length-map-range_with_len b x.start x.len))
         (λ m n. none m (record { stand = stand_back bytes 0 h.ms (m ∷ []) n.stand; whole = n.whole.0 })) line
     go (LargeHeader m here large line) =
-        let one : flat_map continued (m ∷ []) ≡ continued m = append-nil (continued m) in
-        let named = ap met_bytes (flat_map-append continued h.ms (m ∷ []) ∙ ap (λ (l : List Block). flat_map continued h.ms ++ l) one) in
-        let bytes_named = sum_by-append (λ (y : Block). y.len) (flat_map continued h.ms) (continued m) in
-        let all = bytes_more at prefix parts x (h.ms ++ m ∷ []) in
-        RefusedLarge parts x h.ms m reading (next m here) (omega (arith, large, sum, all, named, bytes_named)) line
-    go (BadContinuation m here is refused) =
-        RefusedContinuation parts x h.ms m reading (next m here) is
+        RefusedLarge parts x h.ms m reading (next m here) (omega (arith, large, sum, named_sum m)) line
+    go (BadContinuation m here is small refused) =
+        RefusedContinuation parts x h.ms m reading (next m here) is (omega (arith, small, sum, named_sum m))
         (subst (λ (l : List Block). IsPlacedRefused e l (u64_at m.body 0) (u64_at m.body 8) kind.Header r)
         (append_assoc met (header_blocks at prefix parts) (flat_map continued h.ms) ∙ ap (λ (l : List Block). met ++ l) (sym (blocks_more at prefix parts x h.ms))) refused)
 
@@ -194,7 +197,7 @@ kept_part view mid new at prefix parts x ms met h k =
 
 -- the same of a stop of the next block, where the walk goes over a space as it was
 pub walked_stop : (tells : Bool) (v w : SpaceView) (own : Option (List ℕ)) (met : List Block) (at : ℕ) (prefix : Prefix) (parts : List Part) (old mid : Walk) (x : Block) (r : Refusal) → v ≡ w → IsTrue tells
-    → IsWalked tells v.array at prefix parts old → Takes old mid x → IsBlockStop (bounds_of w own) (met ++ header_blocks at prefix parts) mid.total x.start (bytes_of w.array x.start x.len) mid.wanted r
+    → IsWalked tells v.array at prefix parts old → Draws old mid x → IsBlockStop (bounds_of w own) (met ++ header_blocks at prefix parts) mid.total x.start (bytes_of w.array x.start x.len) mid.wanted r
     → IsMessageRefused v.array (bounds_of v own) met at prefix r
 walked_stop tells v w own met at prefix parts old mid x r same told h takes stop =
     let stop' = subst (λ (y : SpaceView). IsBlockStop (bounds_of y own) (met ++ header_blocks at prefix parts) mid.total x.start (bytes_of y.array x.start x.len) mid.wanted r) (sym same) stop in

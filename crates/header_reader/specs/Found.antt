@@ -6,8 +6,8 @@ use Rattle.outside.specs.Array.{Array, bytes_of}
 use Rattle.outside.specs.Blocks.{Block}
 use Rattle.file_model.specs.Headers.{Part, IsHeader, messages_of, header_blocks, later_header}
 use Rattle.file_model.specs.Limits.{header_bytes, most_header}
-use Rattle.object_header.specs.Gathered.{IsKind}
-use Rattle.object_header.specs.Told.{IsSound}
+use Rattle.header_reader.specs.Gathered.{MakesNode}
+use Rattle.header_reader.specs.Told.{IsSoundNode}
 use Rattle.header_reader.specs.declared.reading.Header.{Header}
 use Rattle.header_reader.specs.declared.reading.Header.TheVariants.{Later, Known}
 
@@ -15,12 +15,12 @@ use Rattle.header_reader.specs.declared.reading.Header.TheVariants.{Later, Known
 -- bytes
 abbrev pub IsFound : Array → ℕ → Header → List Block → Type 0
 IsFound b at Later bs = (bytes_of b at 4 ≡ later_header) × (bs ≡ record { start = at; len = 4 } ∷ [])
-IsFound b at (Known kind) bs =
-    (prefix : Prefix) × (parts : List Part) × IsHeader b at prefix parts × IsKind (messages_of parts) kind
+IsFound b at (Known node) bs =
+    (prefix : Prefix) × (parts : List Part) × IsHeader b at prefix parts × MakesNode (messages_of parts) at node
     × (bs ≡ header_blocks at prefix parts)
     × (header_bytes at prefix parts ≤ most_header)
 
 -- The parts of a dataset fit one another.
 abbrev pub IsSoundHeader : Header → Type 0
 IsSoundHeader Later = Unit {0}
-IsSoundHeader (Known kind) = IsSound kind
+IsSoundHeader (Known node) = IsSoundNode node

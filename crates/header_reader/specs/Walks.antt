@@ -17,8 +17,8 @@ use Rattle.h5_base.specs.declared.refusal.Refusal.{Refusal}
 use Rattle.h5_base.specs.declared.refusal.Refusal.TheVariants.{Malformed, Unsupported}
 use Rattle.outside.specs.Blocks.{IsPlacedRefused}
 use Rattle.file_model.specs.Refusals.{met_bytes}
-use Rattle.object_header.specs.Firsts.{Firsts}
-use Rattle.object_header.specs.Gathered.{Gathers}
+use Rattle.header_reader.specs.Firsts.{Firsts}
+use Rattle.header_reader.specs.Gathered.{Gathers}
 use Rattle.header_reader.specs.declared.walk.Walk.{Walk}
 
 abbrev pub block_of : Extent → Block
@@ -51,7 +51,8 @@ pub record AreMessages (bytes : List ℕ) (wanted : ℕ) (ms : List Met) : Type 
 -- The block that a continuation names is refused, where blocks of so many bytes were met.
 pub data IsNameRefused (e : Bounds) (met : List Block) (total start len : ℕ) (r : Refusal) : Type 0 where
   TooLarge : most_header < total + len → r ≡ Unsupported what.Header → IsNameRefused e met total start len r
-  BadBlock : IsPlacedRefused e met start len kind.Header r → IsNameRefused e met total start len r
+  BadBlock : total + len ≤ most_header → IsPlacedRefused e met start len kind.Header r
+      → IsNameRefused e met total start len r
 
 -- The message at a place of a block is refused, or the block that it names, where blocks of so many bytes were met.
 pub data IsStepRefused (e : Bounds) (met : List Block) (total start : ℕ) (bytes : List ℕ) (place : ℕ)
@@ -62,6 +63,7 @@ pub data IsStepRefused (e : Bounds) (met : List Block) (total start : ℕ) (byte
       → r ≡ Unsupported what.Header
       → IsStepRefused e met total start bytes place r
   BadContinuation : (m : Met) → IsMessageAt bytes place m → m.kind ≡ 0x10
+      → total + met_bytes (continued m) ≤ most_header
       → IsPlacedRefused e met (u64_at m.body 0) (u64_at m.body 8) kind.Header r
       → IsStepRefused e met total start bytes place r
 

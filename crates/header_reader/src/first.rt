@@ -1,17 +1,12 @@
-ghost use Rattle.std.specs.Prelude.{◌≡◌, ◌+◌, ◌^◌, ◌<◌, ◌≤◌, ◌↔◌, ◌⊎◌, ◌∷◌, [], ℕ, List, Option, IsTrue, IfSome};
-ghost use Rattle.std.specs.Prelude.{IsErrOf, length, take};
-ghost use Rattle.outside.specs.Blocks.{Block};
-ghost use Rattle.outside.specs.Space.{bounds_of};
-ghost use Rattle.block_space.specs.Blocks.{Keeps, space_of};
-ghost use Rattle.h5_base.specs.Refusals.{refusal_of};
+ghost use Rattle.std.specs.Prelude.{◌≡◌, ◌≢◌, ◌+◌, ◌^◌, ◌<◌, ◌≤◌, ◌↔◌, ◌⊎◌, IsTrue, length, take};
+ghost use Rattle.outside.specs.Blocks.{IsBlockRefused};
+ghost use Rattle.block_space.specs.Blocks.{Refuses, space_of};
 ghost use Rattle.file_model.specs.Headers.{later_header};
 ghost use Rattle.h5_base.specs.declared.refusal.Refusal.TheVariants.{Malformed};
-ghost use Rattle.outside.specs.Blocks.{IsBlockRefused};
 ghost use Rattle.h5_base.specs.declared.kinds.BlockKind.TheVariants as block_kind;
 
-use block_reader::{TreeStop, adopt};
 use block_space::Blocks;
-use h5_base::BlockKind;
+use h5_base::{BlockKind, Stop};
 use outside::Space;
 
 /// So many bytes say which version a header has: the 16 of a prefix, or 4 or none where these pass the last address.
@@ -38,20 +33,16 @@ pub(crate) fn is_later(bytes: &[u8]) -> bool
 }
 
 /// Why there is no prefix at an address where none is spelled.
-pub(crate) fn no_prefix<V: Space>(blocks: &mut Blocks<V>, at: u64) -> TreeStop
-    requires listed { (met : List Block) × Keeps V.view blocks.old met }
-    ensures refused { (met : List Block) (own : Option (List ℕ)) → Keeps V.view blocks.old met
-        → IfSome (refusal_of result) (λ r. IsBlockRefused (bounds_of (V.view (space_of blocks.old)) own) met
-        (record { start = at; len = 16 }) block_kind.Header r
-        ⊎ ((at + 16 < 2 ^ 64) × (r ≡ Malformed at block_kind.Header))) }
-    ensures no_fault { result ≡ TreeStop.Failed → ⊥ }
+pub(crate) fn no_prefix<V: Space>(blocks: &mut Blocks<V>, at: u64) -> Stop
+    requires stands { V.Stands (space_of blocks.old) }
+    ensures refused { Refuses V.view blocks.old (λ e met r.
+        IsBlockRefused e met (record { start = at; len = 16 }) block_kind.Header r
+        ⊎ ((at + 16 < 2 ^ 64) × (r ≡ Malformed at block_kind.Header))) result }
+    ensures no_fault { result ≢ Stop.Failed }
     ensures space { space_of blocks.new ≡ space_of blocks.old }
 {
-    match adopt(blocks, at, 16, BlockKind::Header) {
-        Ok(()) => TreeStop::Malformed {
-            at,
-            kind: BlockKind::Header,
-        },
+    match blocks.adopt(at, 16, BlockKind::Header) {
+        Ok(()) => Stop::malformed(at, BlockKind::Header),
         Err(stop) => stop,
     }
 }

@@ -1,4 +1,4 @@
-ghost use Rattle.std.specs.Prelude.{◌≡◌, ◌+◌, ◌^◌, ◌<◌, ◌≤◌, ◌++◌, ◌∷◌, ◌⊎◌, [], ℕ, List, Option, None, IsTrue, IfOk};
+ghost use Rattle.std.specs.Prelude.{◌≡◌, ◌+◌, ◌^◌, ◌<◌, ◌≤◌, ◌++◌, ◌∷◌, ◌⊎◌, [], List, IsTrue, IfOk};
 ghost use Rattle.std.specs.Prelude.{IfErr, IfSome, IfNone, OnOk, IsErrOf, length};
 ghost use Rattle.std.specs.List.{flat_map};
 ghost use Rattle.h5_base.specs.Fields.{u64_at};
@@ -6,21 +6,18 @@ ghost use Rattle.header_codec.specs.Headers.{SpellsMessage};
 ghost use Rattle.header_codec.specs.declared.types.Message.{Message};
 ghost use Rattle.outside.specs.Array.{bytes_of};
 ghost use Rattle.outside.specs.Blocks.{Block, placed};
-ghost use Rattle.outside.specs.Causes.{Rose};
-ghost use Rattle.outside.specs.Space.{bounds_of};
-ghost use Rattle.block_space.specs.Blocks.{Keeps, space_of};
-ghost use Rattle.h5_base.specs.Refusals.{refusal_of};
+ghost use Rattle.outside.specs.Causes.{OneRose};
+ghost use Rattle.block_space.specs.Blocks.{Keeps, Refuses, array_of, space_of};
 ghost use Rattle.file_model.specs.Headers.{Met, AreWhole, continued, first_block};
-ghost use Rattle.object_header.specs.Gathered.{Gathers};
 ghost use Rattle.file_model.specs.Refusals.{met_bytes};
+ghost use Rattle.header_reader.specs.Gathered.{Gathers};
 ghost use Rattle.header_reader.specs.Walks.{Meets, IsMessageAt, AreMessages, IsNameRefused, IsStepRefused, IsBlockStop};
 ghost use Rattle.header_reader.specs.Walks.{waiting_of};
 
-use block_reader::{TreeStop, adopt_placed, read};
+use crate::messages::Messages;
 use block_space::Blocks;
-use h5_base::{BlockKind, Extent, What, u64_of};
+use h5_base::{BlockKind, Extent, Stop, What, u64_of};
 use header_codec::{Message, Prefix, read_message};
-use object_header::Messages;
 use outside::Space;
 use std::alloc::Global;
 use std::collections::VecDeque;
@@ -63,14 +60,14 @@ fn whole_message(bytes: &[u8], place: usize) -> Option<Message>
 
 impl Walk {
     /// Of a header of which nothing was met but its prefix, at an address.
-    pub fn begin(alloc: Global, at: u64, prefix: Prefix) -> Result<Walk, TreeStop>
+    pub fn begin(alloc: Global, at: u64, prefix: Prefix) -> Result<Walk, Stop>
         requires short { 16 + prefix.size ≤ 1048576 }
         requires fits { at + 16 + prefix.size < 2 ^ 64 }
         ensures gathered { IfOk result (λ walk. Gathers walk.messages []) }
         ensures waiting { IfOk result (λ walk. waiting_of walk ≡ first_block at prefix ∷ []) }
         ensures wanted { IfOk result (λ walk. walk.wanted ≡ prefix.messages) }
         ensures total { IfOk result (λ walk. walk.total ≡ 16 + prefix.size) }
-        ensures memory { IfErr result (λ stop. stop ≡ TreeStop.NoMemory) }
+        ensures memory { IfErr result (λ stop. stop ≡ Stop.NoMemory) }
     {
         let len = u64::from(prefix.size);
         let mut waiting = VecDeque::new(alloc);
@@ -92,9 +89,9 @@ impl Walk {
         blocks: &mut Blocks<V>,
         start: u64,
         len: u64,
-    ) -> Result<(), TreeStop>
+    ) -> Result<(), Stop>
+        requires stands { V.Stands (space_of blocks.old) }
         requires short { self.old.total ≤ 1048576 }
-        requires listed { (met : List Block) × Keeps V.view blocks.old met }
         ensures kept { OnOk result ((met : List Block) → Keeps V.view blocks.old met
             → Keeps V.view blocks.new (met ++ placed start len)) }
         ensures waiting { OnOk result (waiting_of self.new ≡ waiting_of self.old ++ placed start len) }
@@ -102,18 +99,15 @@ impl Walk {
         ensures short { OnOk result (self.new.total ≤ 1048576) }
         ensures messages { self.new.messages ≡ self.old.messages }
         ensures wanted { self.new.wanted ≡ self.old.wanted }
-        ensures refused { IfErr result (λ stop. (met : List Block) (own : Option (List ℕ)) → Keeps V.view blocks.old met
-            → IfSome (refusal_of stop) (IsNameRefused
-            (bounds_of (V.view (space_of blocks.old)) own) met self.old.total start len)) }
-        ensures no_fault { IsErrOf result TreeStop.Failed → ⊥ }
+        ensures refused { IfErr result (Refuses V.view blocks.old
+            (λ e met r. IsNameRefused e met self.old.total start len r)) }
+        ensures no_fault { ¬ IsErrOf result Stop.Failed }
         ensures space { space_of blocks.new ≡ space_of blocks.old }
     {
         if len > MOST_BYTES - self.total {
-            return Err(TreeStop::Unsupported { what: What::Header });
+            return Err(Stop::unsupported(What::Header));
         }
-        if let Err(stop) = adopt_placed(blocks, start, len, BlockKind::Header) {
-            return Err(stop);
-        }
+        blocks.adopt_placed(start, len, BlockKind::Header)?;
         if len > 0 {
             self.waiting.push_back(Extent { start, len })?;
         }
@@ -127,10 +121,10 @@ impl Walk {
         blocks: &mut Blocks<V>,
         kind: u16,
         body: &[u8],
-    ) -> Result<(), TreeStop>
+    ) -> Result<(), Stop>
+        requires stands { V.Stands (space_of blocks.old) }
         requires short { self.old.total ≤ 1048576 }
         requires whole { kind ≡ 0x10 → 16 ≤ length body.now }
-        requires listed { (met : List Block) × Keeps V.view blocks.old met }
         ensures kept { OnOk result ((met : List Block) → Keeps V.view blocks.old met
             → Keeps V.view blocks.new (met ++ continued (record { kind = kind; flags = 0; body = body.now }))) }
         ensures waiting { OnOk result (waiting_of self.new ≡ waiting_of self.old ++ continued
@@ -140,11 +134,9 @@ impl Walk {
         ensures short { OnOk result (self.new.total ≤ 1048576) }
         ensures messages { self.new.messages ≡ self.old.messages }
         ensures wanted { self.new.wanted ≡ self.old.wanted }
-        ensures refused { IfErr result (λ stop. (met : List Block) (own : Option (List ℕ)) → Keeps V.view blocks.old met
-            → IfSome (refusal_of stop) (λ r. (kind ≡ 0x10)
-            × IsNameRefused (bounds_of (V.view (space_of blocks.old)) own) met self.old.total (u64_at body.now 0)
-            (u64_at body.now 8) r)) }
-        ensures no_fault { IsErrOf result TreeStop.Failed → ⊥ }
+        ensures refused { IfErr result (Refuses V.view blocks.old (λ e met r. (kind ≡ 0x10)
+            × IsNameRefused e met self.old.total (u64_at body.now 0) (u64_at body.now 8) r)) }
+        ensures no_fault { ¬ IsErrOf result Stop.Failed }
         ensures space { space_of blocks.new ≡ space_of blocks.old }
     {
         if kind != CONTINUATION {
@@ -161,32 +153,26 @@ impl Walk {
         start: u64,
         bytes: &[u8],
         place: usize,
-    ) -> Result<usize, TreeStop>
+    ) -> Result<usize, Stop>
+        requires stands { V.Stands (space_of blocks.old) }
         requires short { self.old.total ≤ 1048576 }
         requires wanted { 0 < self.old.wanted }
         requires fits { start + length bytes.now ≤ 2 ^ 64 }
         requires room { place + 8 ≤ length bytes.now }
-        requires listed { (met : List Block) × Keeps V.view blocks.old met }
         ensures found { IfOk result (λ next. (m : Met) × IsMessageAt bytes.now place m
             × (next ≡ place + 8 + length m.body) × Meets self.old self.new (m ∷ [])
             × ((met : List Block) → Keeps V.view blocks.old met → Keeps V.view blocks.new (met ++ continued m))) }
         ensures within { IfOk result (λ next. next ≤ length bytes.now) }
-        ensures refused { IfErr result (λ stop. (met : List Block) (own : Option (List ℕ)) → Keeps V.view blocks.old met
-            → IfSome (refusal_of stop) (IsStepRefused
-            (bounds_of (V.view (space_of blocks.old)) own) met self.old.total start bytes.now place)) }
-        ensures no_fault { IsErrOf result TreeStop.Failed → ⊥ }
+        ensures refused { IfErr result (Refuses V.view blocks.old
+            (λ e met r. IsStepRefused e met self.old.total start bytes.now place r)) }
+        ensures no_fault { ¬ IsErrOf result Stop.Failed }
         ensures space { space_of blocks.new ≡ space_of blocks.old }
     {
         let Some(message) = whole_message(bytes, place) else {
-            return Err(TreeStop::Malformed {
-                at: start + place as u64,
-                kind: BlockKind::Message,
-            });
+            return Err(Stop::malformed(start + place as u64, BlockKind::Message));
         };
         let body = &bytes[message.at..message.at + message.len];
-        if let Err(stop) = self.follow(blocks, message.kind, body) {
-            return Err(stop);
-        }
+        self.follow(blocks, message.kind, body)?;
         self.messages
             .meet(alloc, message.kind, message.flags, body)?;
         self.wanted -= 1;
@@ -200,26 +186,22 @@ impl Walk {
         blocks: &mut Blocks<V>,
         start: u64,
         bytes: &[u8],
-    ) -> Result<(), TreeStop>
+    ) -> Result<(), Stop>
+        requires stands { V.Stands (space_of blocks.old) }
         requires short { self.old.total ≤ 1048576 }
         requires fits { start + length bytes.now ≤ 2 ^ 64 }
-        requires listed { (met : List Block) × Keeps V.view blocks.old met }
         ensures found { OnOk result ((ms : List Met) × AreMessages bytes.now self.old.wanted ms
             × Meets self.old self.new ms
             × ((met : List Block) → Keeps V.view blocks.old met
             → Keeps V.view blocks.new (met ++ flat_map continued ms))) }
-        ensures refused { IfErr result (λ stop. (met : List Block) (own : Option (List ℕ)) → Keeps V.view blocks.old met
-            → IfSome (refusal_of stop) (IsBlockStop
-            (bounds_of (V.view (space_of blocks.old)) own) met self.old.total start bytes.now self.old.wanted)) }
-        ensures no_fault { IsErrOf result TreeStop.Failed → ⊥ }
+        ensures refused { IfErr result (Refuses V.view blocks.old
+            (λ e met r. IsBlockStop e met self.old.total start bytes.now self.old.wanted r)) }
+        ensures no_fault { ¬ IsErrOf result Stop.Failed }
         ensures space { space_of blocks.new ≡ space_of blocks.old }
     {
         let mut place = 0;
         'messages: while self.wanted > 0 && bytes.len() - place >= 8 {
-            place = match self.meet_at(alloc, blocks, start, bytes, place) {
-                Ok(next) => next,
-                Err(stop) => return Err(stop),
-            };
+            place = self.meet_at(alloc, blocks, start, bytes, place)?;
         }
         Ok(())
     }
@@ -230,32 +212,22 @@ impl Walk {
         alloc: Global,
         blocks: &mut Blocks<V>,
         part: Extent,
-    ) -> Result<(), TreeStop>
+    ) -> Result<(), Stop>
         requires stands { V.Stands (space_of blocks.old) }
-        requires listed { (met : List Block) × Keeps V.view blocks.old met }
         requires short { self.old.total ≤ 1048576 }
         ensures found { OnOk result ((ms : List Met)
-            × (IsTrue V.tells → AreMessages (bytes_of
-            (V.view (space_of blocks.old)).array part.start part.len) self.old.wanted ms)
+            × (IsTrue V.tells → AreMessages (bytes_of (array_of V.view blocks.old) part.start part.len)
+            self.old.wanted ms)
             × AreWhole ms × Meets self.old self.new ms
             × ((met : List Block) → Keeps V.view blocks.old met
             → Keeps V.view blocks.new (met ++ flat_map continued ms))) }
-        ensures refused { IsTrue V.tells → IfErr result (λ stop. (met : List Block) (own : Option (List ℕ))
-            → Keeps V.view blocks.old met
-            → IfSome (refusal_of stop) (IsBlockStop
-            (bounds_of (V.view (space_of blocks.old)) own) met self.old.total part.start
-            (bytes_of (V.view (space_of blocks.old)).array part.start part.len) self.old.wanted)) }
+        ensures refused { IsTrue V.tells → IfErr result (Refuses V.view blocks.old (λ e met r. IsBlockStop e met
+            self.old.total part.start (bytes_of (array_of V.view blocks.old) part.start part.len) self.old.wanted r)) }
         ensures alike { V.Alike (space_of blocks.old) (space_of blocks.new) }
-        ensures stands { (IsErrOf result TreeStop.Failed → ⊥) → V.Stands (space_of blocks.new) }
-        ensures listed { OnOk result ((met : List Block) × Keeps V.view blocks.new met) }
-        ensures later { V.faults (space_of blocks.old) ≤ V.faults (space_of blocks.new) }
-        ensures cause { IsErrOf result TreeStop.Failed
-            → Rose (V.faults (space_of blocks.old)) (V.faults (space_of blocks.new)) }
+        ensures failed { IsErrOf result Stop.Failed
+            → OneRose (V.faults (space_of blocks.old)) (V.faults (space_of blocks.new)) }
     {
-        let bytes = match read(alloc, blocks, part.start, part.len as usize) {
-            Ok(bytes) => bytes,
-            Err(stop) => return Err(stop),
-        };
+        let bytes = blocks.read_bytes(alloc, part.start, part.len as usize)?;
         self.meet_all(alloc, blocks, part.start, bytes.as_slice())
     }
 }

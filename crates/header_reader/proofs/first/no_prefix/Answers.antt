@@ -1,5 +1,5 @@
 use Rattle.std.proofs.Common.{inl}
-use Rattle.header_reader.proofs.Following.{if_some}
+use Rattle.block_space.proofs.Stopped.{if_some}
 use Rattle.header_reader.proofs.first.no_prefix.Goals as goal
 
 pub returns-in-Err-clause-refused : goal.returns-in-Err-clause-refused

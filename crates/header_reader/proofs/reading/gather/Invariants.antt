@@ -1,6 +1,6 @@
-use Rattle.std.proofs.Common.{◌+◌, ◌≤◌, ◌++◌, ◌∷◌, [], List, length}
+use Rattle.std.proofs.Common.{◌+◌, ◌++◌, ◌∷◌, [], List, length}
 use Rattle.outside.specs.Blocks.{Block}
-use Rattle.block_space.specs.Blocks.{Keeps, space_of}
+use Rattle.block_space.specs.Blocks.{Keeps, array_of, space_of}
 use Rattle.file_model.specs.Headers.{Part, header_blocks}
 use Rattle.header_reader.specs.Walks.{IsWalked}
 use Rattle.header_reader.proofs.reading.gather.Given as goal
@@ -8,12 +8,9 @@ use Rattle.header_reader.proofs.reading.gather.Given as goal
 abbrev pub invariant-parts : goal.invariant-parts
 invariant-parts g l = record {
   parts : List Part;
-  walked : IsWalked g.V.Space.tells (g.V.Space.view (space_of l.initial.blocks)).array l.at l.fn.prefix parts l.walk;
+  walked : IsWalked g.V.Space.tells (array_of g.V.Space.view l.initial.blocks) l.at l.fn.prefix parts l.walk;
   kept : (met : List Block) → Keeps g.V.Space.view l.initial.blocks (met ++ record { start = l.at; len = 16 + l.fn.prefix.size } ∷ []) → Keeps g.V.Space.view l.blocks (met ++ header_blocks l.at l.fn.prefix parts);
-  listed : (met : List Block) × Keeps g.V.Space.view l.blocks met;
   alike : g.V.Kept.Alike (space_of l.initial.blocks) (space_of l.blocks);
-  stands : g.V.Space.Stands (space_of l.blocks);
-  later : g.V.Space.faults (space_of l.initial.blocks) ≤ g.V.Space.faults (space_of l.blocks);
 }
 
 abbrev pub decreases-parts : goal.decreases-parts

@@ -1,15 +1,19 @@
 use Rattle.std.proofs.Common.{refl, ap, arith}
-use Rattle.header_reader.proofs.Following.{if_some, waits_more, waits_none}
+use Rattle.block_space.proofs.Stopped.{if_some}
+use Rattle.header_reader.proofs.Following.{waits_more, waits_none}
+use Rattle.header_reader.proofs.Stops.{handed}
 use Rattle.header_reader.specs.declared.walk.Walk.{Walk}
 use Rattle.header_reader.specs.Walks.{TooLarge, BadBlock}
 use Rattle.header_reader.proofs.walk.Walk.name_block.Goals as goal
 use Rattle.header_reader.proofs.walk.Walk.name_block.Goals.{then-len-gt0+in_ok-push_back, else-len-gt0}
 
-pub returns-in-Err-clause-refused : goal.returns-in-Err-clause-refused
-returns-in-Err-clause-refused g c = λ met own keeps. if_some _ _ _ (λ r h. BadBlock h) (c.in-Err.ensures.refused met own keeps)
+pub returns-in_err-adopt_placed-clause-refused : goal.returns-in_err-adopt_placed-clause-refused
+returns-in_err-adopt_placed-clause-refused g c =
+    handed c.from_residual.result c.in_err-adopt_placed.field-0.0 _ c.from_residual.ensures.1
+    (λ met own keeps. if_some _ _ _ (λ r h. BadBlock (omega arith) h) (c.in_err-adopt_placed.ensures.refused met own keeps))
 
 pub returns-then-len-self-clause-refused : goal.returns-then-len-self-clause-refused
-returns-then-len-self-clause-refused g c = λ met own keeps. TooLarge (omega arith) refl
+returns-then-len-self-clause-refused g c = λ met own keeps. rw c.unsupported.ensures (TooLarge (omega arith) refl)
 
 pub returns-clause-waiting : goal.returns-clause-waiting
 returns-clause-waiting g c =

@@ -2,9 +2,9 @@
 -- Cited by the model of `Messages`, and by what keeps or reads one message.
 use Rattle.std.specs.Prelude.{ℕ, Option, Some, None}
 use Rattle.file_model.specs.Headers.{Met}
-use Rattle.object_header.specs.Firsts.{Firsts}
-use Rattle.object_header.specs.declared.kept.Kept.{Kept}
-use Rattle.object_header.specs.declared.messages.Messages.TheInside.{Inside}
+use Rattle.header_reader.specs.Firsts.{Firsts}
+use Rattle.header_reader.specs.declared.kept.Kept.{Kept}
+use Rattle.header_reader.specs.declared.messages.Messages.TheInside.{Inside}
 
 -- the message of this type that is kept
 abbrev pub met_of : ℕ → Option Kept → Option Met

@@ -5,16 +5,16 @@ ghost use Rattle.dtype.specs.declared.types.Shape.{Shape};
 ghost use Rattle.header_codec.specs.declared.types.Fill.{Fill};
 ghost use Rattle.header_codec.specs.declared.types.Layout.{Layout};
 ghost use Rattle.file_model.specs.Headers.{AreWhole, Met};
-ghost use Rattle.object_header.specs.Gathered.{Gathers, IsKind};
-ghost use Rattle.object_header.specs.Told.{AreParts, Fit, IsSound, TellsData};
+ghost use Rattle.header_reader.specs.Gathered.{Gathers, MakesNode};
+ghost use Rattle.header_reader.specs.Told.{AreParts, Fit, IsSoundNode, TellsData};
 
-use crate::ObjectKind;
 use crate::kept::{Kept, keep, read_elem, read_filling, read_space, read_storage};
 use dtype::{ElemType, PartStop, Shape};
 use h5_base::{NoMemory, get_u64};
 use header_codec::{Fill, Layout};
 use std::alloc::Global;
 use std::marker::Model;
+use tree_nodes::Node;
 
 // The types of the messages that decide (IV.A.2.b, d, e, f, h, i, l and r).
 const DATASPACE: u16 = 0x1;
@@ -47,11 +47,11 @@ pub struct Messages {
 }
 
 impl Model for Messages {
-    ghost use Rattle.object_header.specs.Firsts.{Firsts};
+    ghost use Rattle.header_reader.specs.Firsts.{Firsts};
 
     ghost Value = { Firsts };
 
-    ghost use Rattle.object_header.specs.Seen.{firsts_of};
+    ghost use Rattle.header_reader.specs.Seen.{firsts_of};
 
     ghost view = { firsts_of };
 }
@@ -104,26 +104,27 @@ impl Messages {
         }
     }
 
-    /// The object that the messages make, once all of the header are met. A header whose symbol table message has
-    /// fewer than 16 bytes, which isn't whole, makes no group.
-    pub fn kind(&self, alloc: Global) -> Result<ObjectKind, NoMemory>
-        ensures made { IfOk result (λ k. (ms : List Met) → Gathers self.now ms → AreWhole ms → IsKind ms k) }
+    /// The object at an address that the messages make, once all of its header are met. A header whose symbol table
+    /// message has fewer than 16 bytes, which isn't whole, makes no group.
+    pub fn node(&self, alloc: Global, header_at: u64) -> Result<Node, NoMemory>
+        ensures made { IfOk result (λ n. (ms : List Met) → Gathers self.now ms → AreWhole ms
+            → MakesNode ms header_at n) }
         // Whatever was met, the parts of a dataset fit one another.
-        ensures sound { IfOk result IsSound }
+        ensures sound { IfOk result IsSoundNode }
     {
         if let Some(table) = &self.table {
-            return Ok(group(table.body.as_slice()));
+            return Ok(group(table.body.as_slice(), header_at));
         }
-        match self.dataset(alloc) {
-            Ok(kind) => Ok(kind),
-            Err(PartStop::Other) => Ok(ObjectKind::Other),
+        match self.dataset(alloc, header_at) {
+            Ok(node) => Ok(node),
+            Err(PartStop::Other) => Ok(Node::Other { header_at }),
             Err(PartStop::NoMemory) => Err(NoMemory),
         }
     }
 
     // The dataset that the messages make; `Other` where they make none.
-    fn dataset(&self, alloc: Global) -> Result<ObjectKind, PartStop>
-        ensures found { IfOk result (λ k. TellsData self.now k) }
+    fn dataset(&self, alloc: Global, header_at: u64) -> Result<Node, PartStop>
+        ensures found { IfOk result (λ n. TellsData self.now header_at n) }
         ensures other { result ≡ Err PartStop.Other → (shape : Shape) → (elem : ElemType) → (fill : Fill)
             → (layout : Layout) → AreParts self.now shape elem fill layout → ⊥ }
     {
@@ -137,7 +138,8 @@ impl Messages {
         if !fit(&shape, elem, &layout) {
             return Err(PartStop::Other);
         }
-        Ok(ObjectKind::Dataset {
+        Ok(Node::Dataset {
+            header_at,
             shape,
             elem,
             fill,
@@ -148,13 +150,18 @@ impl Messages {
 }
 
 // The group of a whole symbol table message.
-fn group(table: &[u8]) -> ObjectKind
-    ensures made { 16 ≤ length table.now → result ≡ ObjectKind.Group (u64_at table.now 0) (u64_at table.now 8) }
-    ensures sound { IsSound result }
+fn group(table: &[u8], header_at: u64) -> Node
+    ensures made { 16 ≤ length table.now
+        → result ≡ Node.Group header_at (u64_at table.now 0) (u64_at table.now 8) }
+    ensures sound { IsSoundNode result }
 {
     match (get_u64(table, 0), get_u64(table, 8)) {
-        (Some(tree_at), Some(heap_at)) => ObjectKind::Group { tree_at, heap_at },
-        _ => ObjectKind::Other,
+        (Some(tree_at), Some(heap_at)) => Node::Group {
+            header_at,
+            tree_at,
+            heap_at,
+        },
+        _ => Node::Other { header_at },
     }
 }
 

@@ -12,11 +12,11 @@ use Rattle.header_codec.specs.declared.types.Fill.TheVariants as fill
 use Rattle.header_codec.specs.declared.types.Layout.{Layout}
 use Rattle.file_model.specs.Headers.{Met, AreWhole}
 use Rattle.file_model.specs.Objects.{first_of, has, IsFirst, DataInfo, HasFill, fill_bytes, IsDataHeader, IsOtherHeader}
-use Rattle.object_header.specs.Firsts.{Firsts}
-use Rattle.object_header.specs.Told.{Tells, TellsFill, AreParts, TellsData}
-use Rattle.object_header.specs.Gathered.{Gathers, IsKind}
-use Rattle.object_header.specs.declared.types.ObjectKind.{ObjectKind}
-use Rattle.object_header.specs.declared.types.ObjectKind.TheVariants as kind
+use Rattle.header_reader.specs.Firsts.{Firsts}
+use Rattle.header_reader.specs.Told.{Tells, TellsFill, AreParts, TellsData}
+use Rattle.header_reader.specs.Gathered.{Gathers, MakesNode}
+use Rattle.tree_nodes.specs.declared.node.Node.{Node}
+use Rattle.tree_nodes.specs.declared.node.Node.TheVariants as node
 
 -- ---- groups
 
@@ -30,12 +30,12 @@ table_whole (f ∷ ms) m w h =
       | false ↦ λ e later. table_whole ms m w.1 later
     ]) refl h
 
-pub group_made : (kept : Firsts) (ms : List Met) (table : Met) (k : ObjectKind) → kept.table ≡ Some table → (16 ≤ length table.body → k ≡ kind.Group (u64_at table.body 0) (u64_at table.body 8))
-    → Gathers kept ms → AreWhole ms → IsKind ms k
-group_made kept ms table k there made h w =
+pub group_made : (kept : Firsts) (ms : List Met) (at : ℕ) (table : Met) (n : Node) → kept.table ≡ Some table → (16 ≤ length table.body → n ≡ node.Group at (u64_at table.body 0) (u64_at table.body 8))
+    → Gathers kept ms → AreWhole ms → MakesNode ms at n
+group_made kept ms at table n there made h w =
     let first : first_of 0x11 ms ≡ Some table = sym h.table ∙ there in
-    let e : k ≡ kind.Group (u64_at table.body 0) (u64_at table.body 8) = made (table_whole ms table w first) in
-    subst (λ (x : ObjectKind). IsKind ms x) (sym e) (record { table = table; first = first; tree_at = refl; heap_at = refl })
+    let e : n ≡ node.Group at (u64_at table.body 0) (u64_at table.body 8) = made (table_whole ms table w first) in
+    subst (λ (x : Node). MakesNode ms at x) (sym e) (refl, record { table = table; first = first; tree_at = refl; heap_at = refl })
 
 -- ---- datasets
 
@@ -95,11 +95,12 @@ parts_told kept ms i h d =
       },
     )
 
-pub data_made : (kept : Firsts) (ms : List Met) (k : ObjectKind) → kept.table ≡ None → TellsData kept k → Gathers kept ms → IsKind ms k
-data_made kept ms (kind.Group tree heap) none told h = absurd told
-data_made kept ms (kind.Dataset shape elem f layout filtered) none told h =
-    (record { shape = shape; elem = elem; fill = fill_bytes (size_of elem) f; layout = layout; filtered = kept.filters }, data_header kept ms shape elem f layout none h told.0, refl, refl, refl, sym told.1, refl)
-data_made kept ms kind.Other none told h = absurd told
+pub data_made : (kept : Firsts) (ms : List Met) (at : ℕ) (n : Node) → kept.table ≡ None → TellsData kept at n → Gathers kept ms → MakesNode ms at n
+data_made kept ms at (node.Group header tree heap) none told h = absurd told
+data_made kept ms at (node.Dataset header shape elem f layout filtered) none told h =
+    (told.0, record { shape = shape; elem = elem; fill = fill_bytes (size_of elem) f; layout = layout; filtered = kept.filters }, data_header kept ms shape elem f layout none h told.1, refl, refl, refl, sym told.2, refl)
+data_made kept ms at (node.Soft text) none told h = absurd told
+data_made kept ms at (node.Other header) none told h = absurd told
 
 -- ---- others
 

@@ -7,8 +7,8 @@ ghost use Rattle.header_codec.specs.Fills.{IsOfSize, SpellsFill};
 ghost use Rattle.header_codec.specs.Layouts.{SpellsLayout};
 ghost use Rattle.header_codec.specs.declared.types.Fill.{Fill};
 ghost use Rattle.header_codec.specs.declared.types.Layout.{Layout};
-ghost use Rattle.object_header.specs.Seen.{met_of, or_first};
-ghost use Rattle.object_header.specs.Told.{Tells, TellsFill};
+ghost use Rattle.header_reader.specs.Seen.{met_of, or_first};
+ghost use Rattle.header_reader.specs.Told.{Tells, TellsFill};
 
 use dtype::{ElemType, PartStop, Shape, read_shape, read_type};
 use h5_base::{Bytes, NoMemory};

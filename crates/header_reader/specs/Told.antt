@@ -2,7 +2,7 @@
 -- h and i. Cited by what reads them.
 use Rattle.std.specs.Prelude.{◌≡◌, ℕ, Bool, false, List, Option, Some, None, length}
 use Rattle.dtype.specs.Products.{FitsFile}
-use Rattle.dtype.specs.Shapes.{SpellsShape}
+use Rattle.dtype.specs.Shapes.{IsShape, SpellsShape}
 use Rattle.dtype.specs.Types.{IsElemType, SpellsType, size_of}
 use Rattle.dtype.specs.declared.types.ElemType.{ElemType}
 use Rattle.dtype.specs.declared.types.Shape.{Shape}
@@ -14,9 +14,9 @@ use Rattle.header_codec.specs.declared.types.Fill.TheVariants as fill
 use Rattle.header_codec.specs.declared.types.Layout.{Layout}
 use Rattle.file_model.specs.Headers.{Met}
 use Rattle.file_model.specs.Objects.{is_shared}
-use Rattle.object_header.specs.Firsts.{Firsts}
-use Rattle.object_header.specs.declared.types.ObjectKind.{ObjectKind}
-use Rattle.object_header.specs.declared.types.ObjectKind.TheVariants as kind
+use Rattle.header_reader.specs.Firsts.{Firsts}
+use Rattle.tree_nodes.specs.declared.node.Node.{Node}
+use Rattle.tree_nodes.specs.declared.node.Node.TheVariants as node
 
 -- The message is there, isn't shared, and its data spell this.
 abbrev pub Tells : {A : Type 0} → (A → List ℕ → Type 0) → Option Met → A → Type 0
@@ -36,14 +36,17 @@ pub record Fit (shape : Shape) (elem : ElemType) (layout : Layout) : Type 0 wher
 -- The parts of a dataset that can be read: they fit one another, and a header can tell each of them.
 pub record IsSoundData (shape : Shape) (elem : ElemType) (fill : Fill) (layout : Layout) : Type 0 where
   pub fit : Fit shape elem layout
+  pub shape_is : IsShape shape
   pub elem_is : IsElemType elem
   pub fill_is : IsOfSize (size_of elem) fill
   pub layout_is : IsLayout layout
 
-abbrev pub IsSound : ObjectKind → Type 0
-IsSound (kind.Group tree heap) = Unit {0}
-IsSound (kind.Dataset shape elem fill layout filtered) = IsSoundData shape elem fill layout
-IsSound kind.Other = Unit {0}
+-- the parts of a node that is a dataset
+abbrev pub IsSoundNode : Node → Type 0
+IsSoundNode (node.Group header tree heap) = Unit {0}
+IsSoundNode (node.Dataset header shape elem fill layout filtered) = IsSoundData shape elem fill layout
+IsSoundNode (node.Soft text) = Unit {0}
+IsSoundNode (node.Other header) = Unit {0}
 
 -- These are the parts of a dataset.
 pub record AreParts (kept : Firsts) (shape : Shape) (elem : ElemType) (fill : Fill) (layout : Layout) : Type 0 where
@@ -54,8 +57,10 @@ pub record AreParts (kept : Firsts) (shape : Shape) (elem : ElemType) (fill : Fi
   pub filled : TellsFill kept.old_fill (size_of elem) kept.fill fill
   pub fit : Fit shape elem layout
 
-abbrev pub TellsData : Firsts → ObjectKind → Type 0
-TellsData kept (kind.Group tree heap) = ⊥
-TellsData kept (kind.Dataset shape elem fill layout filtered) = AreParts kept shape elem fill layout
-    × (filtered ≡ kept.filters)
-TellsData kept kind.Other = ⊥
+-- a dataset whose header stands at this address, with these parts
+abbrev pub TellsData : Firsts → ℕ → Node → Type 0
+TellsData kept at (node.Group header tree heap) = ⊥
+TellsData kept at (node.Dataset header shape elem fill layout filtered) = (header ≡ at)
+    × AreParts kept shape elem fill layout × (filtered ≡ kept.filters)
+TellsData kept at (node.Soft text) = ⊥
+TellsData kept at (node.Other header) = ⊥

@@ -3,9 +3,9 @@ use Rattle.std.proofs.Common.{◌≡◌, ◌≢◌, ℕ, ◌==◌, Bool, true, f
 use Rattle.std.specs.Prelude.{is_some}
 use Rattle.file_model.specs.Headers.{Met}
 use Rattle.file_model.specs.Objects.{first_of, has}
-use Rattle.object_header.specs.Firsts.{Firsts}
-use Rattle.object_header.specs.Seen.{or_first}
-use Rattle.object_header.specs.Gathered.{Gathers}
+use Rattle.header_reader.specs.Firsts.{Firsts}
+use Rattle.header_reader.specs.Seen.{or_first}
+use Rattle.header_reader.specs.Gathered.{Gathers}
 
 -- what a place keeps, and whether a type was met, with one message more
 abbrev pub placed : ℕ → Option Met → Met → Option Met

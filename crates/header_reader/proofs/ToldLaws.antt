@@ -1,6 +1,7 @@
 -- First messages tell at most one dataset, whose parts fit one another.
-use Rattle.std.proofs.Common.{◌≡◌, ℕ, Bool, List, Option, Some, None, sym, subst, ◌∙◌, inl, inr}
-use Rattle.dtype.specs.Shapes.{SpellsShape}
+use Rattle.std.proofs.Common.{◌≡◌, ℕ, zero, suc, ◌+◌, ◌*◌, ◌==◌, Bool, true, false, if◌then◌else◌, List, length, refl, ap, arith, Option, Some, None, sym, subst, ◌∙◌, inl, inr}
+use Rattle.h5_base.specs.Fields.{u64s_at}
+use Rattle.dtype.specs.Shapes.{IsShape, HasLength, SpellsShape, shape_of, rank_of, has_max}
 use Rattle.dtype.specs.Types.{IsElemType, SpellsType, size_of}
 use Rattle.dtype.specs.declared.types.ElemType.{ElemType}
 use Rattle.dtype.specs.declared.types.Shape.{Shape}
@@ -12,10 +13,10 @@ use Rattle.header_codec.specs.declared.types.Fill.{Fill}
 use Rattle.header_codec.specs.declared.types.Layout.{Layout}
 use Rattle.file_model.specs.Headers.{Met}
 use Rattle.file_model.proofs.UniqueHeaders.{layout_same}
-use Rattle.object_header.specs.Firsts.{Firsts}
-use Rattle.object_header.specs.Told.{Tells, TellsFill, Fit, AreParts, IsSound, TellsData}
-use Rattle.object_header.specs.declared.types.ObjectKind.{ObjectKind}
-use Rattle.object_header.specs.declared.types.ObjectKind.TheVariants as kind
+use Rattle.header_reader.specs.Firsts.{Firsts}
+use Rattle.header_reader.specs.Told.{Tells, TellsFill, Fit, AreParts, IsSoundNode, TellsData}
+use Rattle.tree_nodes.specs.declared.node.Node.{Node}
+use Rattle.tree_nodes.specs.declared.node.Node.TheVariants as node
 
 space_same : (o : Option Met) (s t : Shape) → Tells SpellsShape o s → Tells SpellsShape o t → s ≡ t
 space_same None s t h k = absurd h
@@ -67,12 +68,38 @@ told_fill : (old_fill : Bool) (size : ℕ) (o : Option Met) (f : Fill) → Tells
 told_fill old_fill size None f h = subst (IsOfSize size) (sym h.1) tt
 told_fill old_fill size (Some m) f h = h.2
 
-pub sound_told : (kept : Firsts) (k : ObjectKind) → TellsData kept k → IsSound k
-sound_told kept (kind.Group tree heap) h = absurd h
-sound_told kept (kind.Dataset shape elem fill layout filtered) h = record {
-  fit = h.0.fit;
-  elem_is = told_elem kept.elem elem h.0.type;
-  fill_is = told_fill kept.old_fill (size_of elem) kept.fill fill h.0.filled;
-  layout_is = told_layout kept.layout layout h.0.stored;
+numbers_read : (b : List ℕ) (at step n : ℕ) → length (u64s_at b at step n) ≡ n
+numbers_read b at step zero = refl
+numbers_read b at step (suc n) = ap suc (numbers_read b (at + step) step n)
+
+max_read : (b : List ℕ) (n at : ℕ) (t : Bool) → HasLength n (if t then Some (u64s_at b at 8 n) else None)
+max_read b n at true = numbers_read b at 8 n
+max_read b n at false = tt
+
+spelled_shape : (s : Shape) (b : List ℕ) → SpellsShape s b → IsShape s
+spelled_shape s b h = subst IsShape (sym h.value) read
+  where
+    rank : length (u64s_at b 8 8 (rank_of b)) ≡ rank_of b
+    rank = numbers_read b 8 8 (rank_of b)
+
+    read : IsShape (shape_of b)
+    read = record {
+      rank = omega (arith, rank, h.space.rank);
+      same_rank = subst (λ (n : ℕ). HasLength n (shape_of b).max) (sym rank) (max_read b (rank_of b) (8 + 8 * rank_of b) (has_max b == 1));
+    }
+
+told_shape : (o : Option Met) (s : Shape) → Tells SpellsShape o s → IsShape s
+told_shape None s h = absurd h
+told_shape (Some m) s h = spelled_shape s m.body h.1
+
+pub sound_told : (kept : Firsts) (at : ℕ) (n : Node) → TellsData kept at n → IsSoundNode n
+sound_told kept at (node.Group header tree heap) h = absurd h
+sound_told kept at (node.Dataset header shape elem fill layout filtered) h = record {
+  fit = h.1.fit;
+  shape_is = told_shape kept.space shape h.1.space;
+  elem_is = told_elem kept.elem elem h.1.type;
+  fill_is = told_fill kept.old_fill (size_of elem) kept.fill fill h.1.filled;
+  layout_is = told_layout kept.layout layout h.1.stored;
 }
-sound_told kept kind.Other h = absurd h
+sound_told kept at (node.Soft text) h = absurd h
+sound_told kept at (node.Other header) h = absurd h

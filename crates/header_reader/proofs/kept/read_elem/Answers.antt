@@ -1,9 +1,9 @@
 use Rattle.std.proofs.Common.{◌≡◌, ℕ, List, Option, Some, subst, sym, arith}
 use Rattle.dtype.specs.Types.{SpellsType}
-use Rattle.object_header.specs.Seen.{met_of}
-use Rattle.object_header.specs.Told.{Tells}
-use Rattle.object_header.specs.declared.kept.Kept.{Kept}
-use Rattle.object_header.proofs.kept.read_elem.Goals as goal
+use Rattle.header_reader.specs.Seen.{met_of}
+use Rattle.header_reader.specs.Told.{Tells}
+use Rattle.header_reader.specs.declared.kept.Kept.{Kept}
+use Rattle.header_reader.proofs.kept.read_elem.Goals as goal
 
 pub returns-in-Some-clause-other : goal.returns-in-Some-clause-other
 returns-in-Some-clause-other c =

@@ -3,10 +3,10 @@ use Rattle.std.proofs.Common.{◌≡◌, ℕ, false, Err, sym, subst}
 use Rattle.std.specs.Prelude.{IsTrue}
 use Rattle.std.proofs.lemmas.Result.{err_from_is_err_and}
 use Rattle.dtype.specs.declared.types.PartStop.TheVariants as stop
-use Rattle.object_header.specs.Seen.{firsts_of, met_of}
-use Rattle.object_header.specs.Told.{TellsFill}
-use Rattle.object_header.proofs.ToldLaws.{no_fill, no_fit}
-use Rattle.object_header.proofs.messages.Messages.dataset.Goals as goal
+use Rattle.header_reader.specs.Seen.{firsts_of, met_of}
+use Rattle.header_reader.specs.Told.{TellsFill}
+use Rattle.header_reader.proofs.ToldLaws.{no_fill, no_fit}
+use Rattle.header_reader.proofs.messages.Messages.dataset.Goals as goal
 
 pub returns-in_err-fill-clause-other : goal.returns-in_err-fill-clause-other
 returns-in_err-fill-clause-other c =

@@ -1,13 +1,13 @@
 -- When what is kept are the first messages of a header, and which object a header's messages make, by the HDF5 File
 -- Format Specification 3.0, IV.A.2.
 -- Cited by `Messages`, and by what reads object headers.
-use Rattle.std.specs.Prelude.{◌≡◌, List}
+use Rattle.std.specs.Prelude.{◌≡◌, ℕ, List}
 use Rattle.dtype.specs.Types.{size_of}
 use Rattle.file_model.specs.Headers.{Met}
 use Rattle.file_model.specs.Objects.{first_of, has, fill_bytes, DataInfo, IsGroupHeader, IsDataHeader, IsOtherHeader}
-use Rattle.object_header.specs.Firsts.{Firsts}
-use Rattle.object_header.specs.declared.types.ObjectKind.{ObjectKind}
-use Rattle.object_header.specs.declared.types.ObjectKind.TheVariants.{Group, Dataset, Other}
+use Rattle.header_reader.specs.Firsts.{Firsts}
+use Rattle.tree_nodes.specs.declared.node.Node.{Node}
+use Rattle.tree_nodes.specs.declared.node.Node.TheVariants.{Group, Dataset, Soft, Other}
 
 -- What is kept is the first of these messages of each type.
 pub record Gathers (kept : Firsts) (ms : List Met) : Type 0 where
@@ -20,11 +20,12 @@ pub record Gathers (kept : Firsts) (ms : List Met) : Type 0 where
   pub files : kept.files ≡ has 0x7 ms
   pub filters : kept.filters ≡ has 0xB ms
 
--- The messages make this object.
-abbrev pub IsKind : List Met → ObjectKind → Type 0
-IsKind ms (Group tree heap) = IsGroupHeader ms tree heap
-IsKind ms (Dataset shape elem fill layout filtered) =
-    (i : DataInfo) × IsDataHeader ms i × (i.shape ≡ shape) × (i.elem ≡ elem) × (i.layout ≡ layout)
+-- The messages make this object at an address; a soft link is none.
+abbrev pub MakesNode : List Met → ℕ → Node → Type 0
+MakesNode ms at (Group header tree heap) = (header ≡ at) × IsGroupHeader ms tree heap
+MakesNode ms at (Dataset header shape elem fill layout filtered) =
+    (header ≡ at) × (i : DataInfo) × IsDataHeader ms i × (i.shape ≡ shape) × (i.elem ≡ elem) × (i.layout ≡ layout)
     × (i.filtered ≡ filtered)
     × (fill_bytes (size_of elem) fill ≡ i.fill)
-IsKind ms Other = IsOtherHeader ms
+MakesNode ms at (Soft text) = ⊥
+MakesNode ms at (Other header) = (header ≡ at) × IsOtherHeader ms

@@ -1,9 +1,9 @@
 -- Each type that counts changes its own place, and the others nothing.
 use Rattle.std.proofs.Common.{ap, refl, arith}
 use Rattle.std.proofs.lemmas.Result.{on_ok_weaker}
-use Rattle.object_header.specs.Seen.{firsts_of}
-use Rattle.object_header.proofs.FirstLaws.{met_as, met_other, IsOther}
-use Rattle.object_header.proofs.messages.Messages.meet.Goals as goal
+use Rattle.header_reader.specs.Seen.{firsts_of}
+use Rattle.header_reader.proofs.FirstLaws.{met_as, met_other, IsOther}
+use Rattle.header_reader.proofs.messages.Messages.meet.Goals as goal
 
 pub returns-in-1-clause-ok : goal.returns-in-1-clause-ok
 returns-in-1-clause-ok c =

@@ -1,3 +1,0 @@
-pub mod FirstLaws
-pub mod ToldLaws
-pub mod KindLaws

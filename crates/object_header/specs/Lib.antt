@@ -1,4 +1,0 @@
-pub mod Firsts
-pub mod Seen
-pub mod Told
-pub mod Gathered
