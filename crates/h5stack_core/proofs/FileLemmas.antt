@@ -95,4 +95,4 @@ rests_named name file id w leaves named is rests c left = (λ k. c (sym named k)
 pub opens_refused_by_none : (file : List ℕ) (t : Plain) (r : Refusal) → Opens file t → IsRefusedFile file r → ⊥
 opens_refused_by_none file t r opens (AtMount is) = one_verdict (array_in file) (end_in file) r is opens.admitted
 opens_refused_by_none file t r opens (InTree admitted why) =
-    tree.not_refused_file (array_in file) (one_region (end_in file)) opens.held.superblock opens.held.root opens.held.links opens.held.full why.0 opens.held.within why.1
+    tree.not_refused_file (array_in file) (one_region (end_in file)) opens.held.superblock opens.held.root opens.held.links opens.held.full r opens.held.within why

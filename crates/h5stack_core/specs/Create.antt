@@ -1,7 +1,8 @@
 -- `create plain=F`: what it leaves and prints, by how it ends. F is the file's name.
 -- Cited by `run` and by `create_file`.
 use Rattle.std.specs.Prelude.{◌≡◌, ℕ, ◌<◌, Bool, IsTrue, List, [], length, ◌++◌, codes}
-use Rattle.outside.specs.Files.{RestsAt}
+use Rattle.outside.specs.Files.{Files, RestsAt}
+use Rattle.outside.specs.Store.{GoesOver}
 use Rattle.empty_file.specs.Empty.{empty_file}
 use Rattle.printing.specs.Written.{WrittenInPart}
 use Rattle.h5stack_core.specs.Stores.{Telling, Moment}
@@ -35,8 +36,12 @@ LeftByCreate tells file before after prints old new Memory = Unit {0}
 LeftByCreate tells file before after prints old new ScriptMemory = ⊥
 LeftByCreate tells file before after prints old new Limit = ⊥
 
--- Whatever it ends with, a file F that isn't empty stays as it is.
+-- Whatever it ends with, a file F that isn't empty stays as it is, and then a stop leaves only what it could leave
+-- before. No stop leaves of another file what it couldn't leave before.
 pub record Creates (tells : Telling) (file : List ℕ) (before after : Moment) (prints : Bool) (old new : List ℕ)
     (ending : Ending) : Type 0 where
   pub kept : IsTrue tells.files → 0 < length (before.view.files file) → after.view.files file ≡ before.view.files file
+  pub rested : IsTrue tells.files → IsTrue tells.images → 0 < length (before.view.files file) → (c : Files)
+      → after.leaves c → before.leaves c
+  pub images : IsTrue tells.images → GoesOver (λ q. q ≡ file) before.leaves after.leaves before.past after.past
   pub left : LeftByCreate tells file before after prints old new ending

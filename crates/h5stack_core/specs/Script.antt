@@ -5,22 +5,18 @@ use Rattle.outside.specs.Array.{Array}
 use Rattle.outside.specs.Blocks.{Bounds}
 use Rattle.outside.specs.Files.{RestsAt}
 use Rattle.outside.specs.Store.{GoesOver}
-use Rattle.block_reader.specs.declared.stop.TreeStop.{TreeStop}
-use Rattle.block_reader.specs.declared.stop.TreeStop.TheVariants as stop
 use Rattle.super_codec.specs.declared.superblock.Superblock.{Superblock}
 use Rattle.object_model.specs.Tree.{Group}
 use Rattle.object_model.specs.Step.{Plain}
 use Rattle.file_model.specs.Holds.{GroupAt, FullLinks, HoldsFull, plain}
 use Rattle.file_model.specs.Limits.{IsWithinLimits}
 use Rattle.file_model.specs.Laws.{all_blocks}
-use Rattle.file_model.specs.Refusals as of_file
 use Rattle.file_model.specs.RefusedTree.{IsFileRefused}
 use Rattle.script_run.specs.Run.{IsAnswered, IsStopped, IsInPart}
 use Rattle.script_run.specs.declared.stop.Ended.{Ended}
 use Rattle.script_run.specs.declared.stop.Ended.TheVariants as ended
 use Rattle.h5stack_core.specs.Stores.{Telling, Moment, SameFiles}
 use Rattle.h5_base.specs.declared.refusal.Refusal.{Refusal}
-use Rattle.h5_base.specs.declared.refusal.Refusal.TheVariants as why
 use Rattle.h5stack_core.specs.declared.ending.Ending.{Ending}
 use Rattle.h5stack_core.specs.declared.ending.Ending.TheVariants.{Done, SomeNot, Words, Store, Refused, Input, Output}
 use Rattle.h5stack_core.specs.declared.ending.Ending.TheVariants.{Memory, ScriptMemory, Limit}
@@ -36,29 +32,9 @@ pub record HoldsWithin (b : Array) (e : Bounds) (t : Plain) : Type 0 where
   pub within : IsWithinLimits b (all_blocks superblock full.driver (Group root links)) (Group root links)
   pub tree : t ≡ plain (Group root links)
 
--- the refusal that the reading of a tree ends with
-abbrev pub of_tree : of_file.Refusal → Refusal
-of_tree (of_file.Malformed at kind) = why.Malformed at kind
-of_tree (of_file.Unsupported what) = why.Unsupported what
-of_tree (of_file.LinkedTwice at) = why.LinkedTwice at
-of_tree (of_file.Overlap at) = why.Overlap at
-of_tree of_file.TooDeep = why.TooDeep
-of_tree of_file.TooMany = why.TooMany
-
--- how a run ends whose tree isn't opened
-abbrev pub unopened : TreeStop → Ending
-unopened (stop.Malformed at kind) = Refused (why.Malformed at kind)
-unopened (stop.LinkedTwice at) = Refused (why.LinkedTwice at)
-unopened (stop.Overlap at) = Refused (why.Overlap at)
-unopened stop.TooDeep = Refused why.TooDeep
-unopened stop.TooMany = Refused why.TooMany
-unopened (stop.Unsupported what) = Refused (why.Unsupported what)
-unopened stop.Failed = Store
-unopened stop.NoMemory = Memory
-
 -- the bytes show this refusal when their tree is read
 abbrev pub IsRefusedTree : Array → Bounds → Refusal → Type 0
-IsRefusedTree b e reason = (r : of_file.Refusal) × IsFileRefused b e r × (reason ≡ of_tree r)
+IsRefusedTree b e reason = IsFileRefused b e reason
 
 -- ---- what is read and printed
 
@@ -153,12 +129,14 @@ IfClosed Limit Lasts = Lasts
 
 -- ---- the run over a file
 
--- No file changes, and no stop leaves of another file what it couldn't leave before. Where the run closed the file,
--- over an honest store each stop leaves its bytes.
+-- No file changes, and no stop leaves of another file what it couldn't leave before. Where the run closed the file, or
+-- where it lasted before, over an honest store each stop leaves its bytes.
 pub record Runs (tells : Telling) (file : List ℕ) (before after : Moment) (Opens : Plain → Type 0)
     (IsRefused : Refusal → Type 0) (x : Transcript) (ending : Ending) : Type 0 where
   pub same : SameFiles tells.files before.view after.view
   pub images : IsTrue tells.images → GoesOver (λ q. q ≡ file) before.leaves after.leaves before.past after.past
   pub lasts : IsTrue tells.files → IsTrue tells.images → IsTrue before.view.honest
       → IfClosed ending (RestsAt file (before.view.files file) after.leaves)
+  pub rested : IsTrue tells.files → IsTrue tells.images → IsTrue before.view.honest
+      → RestsAt file (before.view.files file) before.leaves → RestsAt file (before.view.files file) after.leaves
   pub answers : IsTrue tells.files → Answers Opens IsRefused x ending

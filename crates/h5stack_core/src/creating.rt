@@ -1,6 +1,7 @@
 ghost use Rattle.std.specs.Prelude.{◌≡◌, ◌<◌, ℕ, List, [], length, IsTrue, IsErr, IsErrOf, IfOk, OnOk, OnErr};
 ghost use Rattle.outside.specs.Files.{Files, RestsAt};
-ghost use Rattle.outside.specs.Store.{Goes, SomeRose};
+ghost use Rattle.outside.specs.Store.{Goes, GoesOver, SomeRose};
+ghost use Rattle.stack_mount.specs.Mounted.{IsOnlySeen};
 ghost use Rattle.empty_file.specs.Empty.{empty_file};
 ghost use Rattle.outside.specs.Causes.{Rose};
 ghost use Rattle.h5stack_core.specs.Create.{Creates};
@@ -25,7 +26,8 @@ pub enum CreateStop {
 
 /// The id of a file that has to be empty.
 fn open_empty<S: Store>(store: &mut S, name: &Name) -> Result<FileId, CreateStop>
-    ensures goes { Goes S.tells_files (λ _. ⊥) (S.view store.old) (S.view store.new) }
+    ensures seen { IsOnlySeen S.tells_files S.tells_images (S.view store.old) (S.view store.new) (S.leaves store.old)
+        (S.leaves store.new) (S.past store.old) (S.past store.new) }
     ensures id { IfOk result (λ id. (S.view store.new).names id.n ≡ name.now) }
     ensures empty { IsTrue S.tells_files → OnOk result ((S.view store.old).files name.now ≡ []) }
     ensures exists { IsTrue S.tells_files → IsErrOf result CreateStop.Exists
@@ -50,6 +52,8 @@ fn write_empty<S: Store>(store: &mut S, id: FileId) -> Result<(), Failed>
     requires given { 0 < length ((S.view store.old).names id.n) }
     requires empty { IsTrue S.tells_files → (S.view store.old).files ((S.view store.old).names id.n) ≡ [] }
     ensures goes { Goes S.tells_files (λ q. q ≡ (S.view store.old).names id.n) (S.view store.old) (S.view store.new) }
+    ensures over { IsTrue S.tells_images → GoesOver (λ q. q ≡ (S.view store.old).names id.n) (S.leaves store.old)
+        (S.leaves store.new) (S.past store.old) (S.past store.new) }
     ensures bytes { IsTrue S.tells_files → OnOk result
         ((S.view store.new).files ((S.view store.old).names id.n) ≡ empty_file) }
     ensures durable { IsTrue S.tells_images → IsTrue S.tells_files → IsTrue (S.view store.old).honest
@@ -73,6 +77,10 @@ pub fn create<S: Store>(store: &mut S, name: &Name) -> Result<(), CreateStop>
         → 0 < length ((S.view store.old).files name.now) }
     ensures kept { IsTrue S.tells_files → 0 < length ((S.view store.old).files name.now)
         → (S.view store.new).files name.now ≡ (S.view store.old).files name.now }
+    ensures rested { IsTrue S.tells_files → IsTrue S.tells_images → 0 < length ((S.view store.old).files name.now)
+        → (c : Files) → S.leaves store.new c → S.leaves store.old c }
+    ensures images { IsTrue S.tells_images → GoesOver (λ q. q ≡ name.now) (S.leaves store.old) (S.leaves store.new)
+        (S.past store.old) (S.past store.new) }
     ensures exists_same { IsErrOf result CreateStop.Exists
         → SameFiles S.tells_files (S.view store.old) (S.view store.new) }
     ensures memory_same { IsErrOf result CreateStop.NoMemory

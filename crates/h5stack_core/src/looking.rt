@@ -1,5 +1,5 @@
 ghost use Rattle.std.specs.Prelude.{◌≡◌, ◌⊎◌, ◌≤◌, ℕ, IsTrue, None};
-ghost use Rattle.outside.specs.Causes.{Rose};
+ghost use Rattle.outside.specs.Causes.{Rose, OneRose};
 ghost use Rattle.outside.specs.Space.{bounds_of};
 ghost use Rattle.h5_base.specs.declared.extent.MemClass.TheVariants as class;
 ghost use Rattle.object_model.specs.Step.{Plain};
@@ -8,12 +8,10 @@ ghost use Rattle.tree_answers.specs.Shown.{IsTreeOf};
 ghost use Rattle.h5stack_core.specs.Endings.{IfNothingDone};
 ghost use Rattle.h5stack_core.specs.declared.words.WordFault.{WordFault};
 ghost use Rattle.h5stack_core.specs.Script.{HoldsWithin, IsRefusedTree, Answers, TreeAnswers, IfClosed, IsOfScript};
-ghost use Rattle.h5stack_core.specs.Script.{unopened};
 
-use crate::ending::Ending;
+use crate::ending::{Ending, stopped};
 use block_space::Blocks;
-use h5_base::Refusal;
-use object_tree::{ObjectTree, TreeStop, open_tree};
+use object_tree::{ObjectTree, open_tree};
 use outside::{Sink, Source, Space};
 use script_run::{Ended, ScriptStop, answer_script};
 use std::alloc::Global;
@@ -23,34 +21,6 @@ use std::alloc::Global;
 pub struct Looked<V> {
     pub space: V,
     pub ending: Ending,
-}
-
-// How a run ends whose tree wasn't opened.
-fn unopened(stop: TreeStop) -> Ending
-    ensures { result ≡ unopened stop }
-{
-    match stop {
-        TreeStop::Malformed { at, kind } => Ending::Refused {
-            why: Refusal::Malformed { at, kind },
-        },
-        TreeStop::LinkedTwice { at } => Ending::Refused {
-            why: Refusal::LinkedTwice { at },
-        },
-        TreeStop::Overlap { at } => Ending::Refused {
-            why: Refusal::Overlap { at },
-        },
-        TreeStop::TooDeep => Ending::Refused {
-            why: Refusal::TooDeep,
-        },
-        TreeStop::TooMany => Ending::Refused {
-            why: Refusal::TooMany,
-        },
-        TreeStop::Unsupported { what } => Ending::Refused {
-            why: Refusal::Unsupported { what },
-        },
-        TreeStop::Failed => Ending::Store,
-        TreeStop::NoMemory => Ending::Memory,
-    }
 }
 
 // Answers each line of a script over a tree.
@@ -94,9 +64,9 @@ fn close<V: Space>(space: &mut V, ending: Ending) -> Ending
     ensures goes { V.GoesOn space.old space.new }
     ensures array { IsTrue V.tells → (V.view space.new).array ≡ (V.view space.old).array }
     ensures ends { (V.view space.new).ends ≡ (V.view space.old).ends }
-    ensures later { V.faults space.old ≤ V.faults space.new }
-    ensures fault { result ≡ Ending.Store → (ending ≡ Ending.Store) ⊎ Rose (V.faults space.old) (V.faults space.new)
-        ⊎ Rose (V.copy_faults space.old) (V.copy_faults space.new) }
+    ensures rested { V.Rests space.old → V.Rests space.new }
+    ensures fault { result ≡ Ending.Store → (ending ≡ Ending.Store) ⊎ OneRose (V.faults space.old) (V.faults space.new)
+        ⊎ OneRose (V.copy_faults space.old) (V.copy_faults space.new) }
 {
     match space.settle() {
         Ok(()) => ending,
@@ -126,14 +96,15 @@ pub fn look<V: Space, I: Source, O: Sink>(
         }) result.ending }
     ensures unread { IfNothingDone result.ending (input.new ≡ input.old) }
     ensures silent { IfNothingDone result.ending (out.new ≡ out.old) }
-    ensures store_fault { result.ending ≡ Ending.Store → Rose (V.faults space) (V.faults result.space)
-        ⊎ ((before : ℕ) × Rose before (V.copy_faults result.space)) }
+    ensures store_fault { result.ending ≡ Ending.Store → OneRose (V.faults space) (V.faults result.space)
+        ⊎ OneRose (V.copy_faults space) (V.copy_faults result.space) }
     ensures input_fault { result.ending ≡ Ending.Input → Rose (I.faults input.old) (I.faults input.new) }
     ensures output_fault { result.ending ≡ Ending.Output → Rose (O.faults out.old) (O.faults out.new) }
     ensures goes { V.GoesOn space result.space }
     ensures array { IsTrue V.tells → (V.view result.space).array ≡ (V.view space).array }
     ensures ends { (V.view result.space).ends ≡ (V.view space).ends }
     ensures rests { IfClosed result.ending (V.Rests result.space) }
+    ensures rested { V.Rests space → V.Rests result.space }
     ensures words { (fault : WordFault) → result.ending ≡ Ending.Words fault → ⊥ }
 {
     let mut blocks = Blocks::new(alloc, space);
@@ -146,7 +117,7 @@ pub fn look<V: Space, I: Source, O: Sink>(
         }
         Err(stop) => Looked {
             space: blocks.finish(),
-            ending: unopened(stop),
+            ending: stopped(stop),
         },
     }
 }

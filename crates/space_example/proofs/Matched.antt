@@ -3,7 +3,7 @@ use Rattle.std.proofs.Common.{◌≡◌, Bool, true, false, cond, List, [], ◌�
 use Rattle.outside.specs.Array.{Array}
 use Rattle.outside.specs.Blocks.{Bounds}
 use Rattle.outside.specs.Space.{SpaceView, bounds_of}
-use Rattle.block_reader.specs.declared.stop.TreeStop.{TreeStop}
+use Rattle.h5_base.specs.declared.refusal.Stop.{Stop}
 use Rattle.h5_base.specs.Refusals.{refusal_of}
 use Rattle.super_codec.specs.declared.superblock.Superblock.{Superblock}
 use Rattle.object_model.specs.declared.answer.Code.TheVariants.{Absent}
@@ -102,9 +102,9 @@ pub opened_over : {V : Type 0} (view : V → SpaceView) (a b : V) (kept : Object
 opened_over {V = V} view a b kept same h = subst (λ (s : V). IsOpened (view s).array (bounds_of (view s) None) kept) same h
 
 -- a file whose tree is held within the limits isn't refused so
-abbrev NeverStops : SpaceView → TreeStop → Type 0
+abbrev NeverStops : SpaceView → Stop → Type 0
 NeverStops v stop =
     (s : Superblock) (g : GroupAt) (ls : FullLinks) (h : HoldsFull v.array (bounds_of v None) s g ls) → IsWithinLimits v.array (all_blocks s h.driver (Group g ls)) (Group g ls) → refusal_of stop ≡ None
 
-pub never_over : {V : Type 0} (view : V → SpaceView) (a b : V) (stop : TreeStop) → a ≡ b → NeverStops (view a) stop → NeverStops (view b) stop
+pub never_over : {V : Type 0} (view : V → SpaceView) (a b : V) (stop : Stop) → a ≡ b → NeverStops (view a) stop → NeverStops (view b) stop
 never_over {V = V} view a b stop same h = subst (λ (s : V). NeverStops (view s) stop) same h

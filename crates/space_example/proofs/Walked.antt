@@ -38,7 +38,7 @@ IsChild kept id n child = (e : Kept) → entry_of kept id.key ≡ Some e → Are
 pub has_child : (kept : ObjectTree) (id child : NodeId) (n : Name) → IsSoundTree kept → Has kept id → IsChild kept id n (Some child) → Has kept child
 has_child kept id child n sound has found =
     let (e, is) = some_entry (entry_of kept id.key) has in
-    let entry = sound.entries id.key e is in
+    let entry = sound.nodes.entries id.key e is in
     lead_found kept e.links n child (sym (found e is entry.ordered)) entry.linked
 
 -- ---- the names of a path, as far as they were looked up
@@ -62,7 +62,7 @@ at_end kept id path rest t none on =
 child_is : (kept : ObjectTree) (id : NodeId) (n : Name) (child : Option NodeId) (u : Keyed) → IsSoundTree kept → key_of u ≡ id.key → AreKept (entry_of kept) u → IsChild kept id n child → child ≡ find_link (links_of u) n
 child_is kept id n child u sound key at found =
     let entry : entry_of kept id.key ≡ Some (kept_of u) = ap (entry_of kept) (sym key) ∙ kept_first (entry_of kept) u at in
-    found (kept_of u) entry (sound.entries id.key (kept_of u) entry).ordered
+    found (kept_of u) entry (sound.nodes.entries id.key (kept_of u) entry).ordered
 
 abbrev after : Option Keyed → List Name → Result Keyed Code
 after o ns = ok_or o Absent >>= λ v. walk v ns

@@ -1,6 +1,6 @@
-ghost use Rattle.std.specs.Prelude.{◌≡◌, ◌≤◌, None, IsTrue, IfOk, IfErr, IfSome, OnErr, IsErrOf};
+ghost use Rattle.std.specs.Prelude.{◌≡◌, None, IsTrue, IfOk, IfErr, IfSome, IsErrOf};
 ghost use Rattle.h5_base.specs.declared.extent.MemClass.TheVariants as class;
-ghost use Rattle.outside.specs.Causes.{Rose};
+ghost use Rattle.outside.specs.Causes.{OneRose};
 ghost use Rattle.outside.specs.Space.{bounds_of};
 ghost use Rattle.h5_base.specs.Refusals.{refusal_of};
 ghost use Rattle.super_codec.specs.declared.superblock.Superblock.{Superblock};
@@ -14,10 +14,9 @@ ghost use Rattle.tree_nodes.specs.Shown.{Keyed, Shows};
 ghost use Rattle.object_tree.specs.Sound.{IsSoundTree};
 ghost use Rattle.space_example.specs.Lookup.{IsFileTree, looked, told, reached_node, reached_id};
 
-use block_reader::TreeStop;
 use block_space::Blocks;
 use dtype::ElemType;
-use h5_base::{Bytes, LinkName};
+use h5_base::{Bytes, LinkName, Stop};
 use object_tree::{Node, NodeId, ObjectTree, open_tree};
 use outside::Space;
 use std::alloc::Global;
@@ -48,7 +47,7 @@ pub enum Found {
 #[derive(Drop)]
 pub struct Looked<V> {
     pub space: V,
-    pub answer: Result<Option<Found>, TreeStop>,
+    pub answer: Result<Option<Found>, Stop>,
 }
 
 // The node that a path leads to.
@@ -68,9 +67,9 @@ fn id_at(tree: &ObjectTree, path: &[LinkName]) -> Option<NodeId>
 }
 
 // What the file holds at a node.
-fn tell(alloc: Global, node: &Node) -> Result<Found, TreeStop>
+fn tell(alloc: Global, node: &Node) -> Result<Found, Stop>
     ensures told { IfOk result (λ f. f ≡ told node.now) }
-    ensures memory { IfErr result (λ stop. stop ≡ TreeStop.NoMemory) }
+    ensures memory { IfErr result (λ stop. stop ≡ Stop.NoMemory) }
 {
     match node {
         Node::Group { header_at, .. } => Ok(Found::Group {
@@ -88,7 +87,7 @@ fn tell(alloc: Global, node: &Node) -> Result<Found, TreeStop>
         }),
         Node::Soft { text } => match Bytes::from_slice(alloc, text.as_slice()) {
             Ok(text) => Ok(Found::Soft { text }),
-            Err(_) => Err(TreeStop::NoMemory),
+            Err(_) => Err(Stop::NoMemory),
         },
         Node::Other { header_at } => Ok(Found::Other {
             header_at: *header_at,
@@ -97,10 +96,10 @@ fn tell(alloc: Global, node: &Node) -> Result<Found, TreeStop>
 }
 
 // What a path of a tree leads to.
-fn found_at(alloc: Global, tree: &ObjectTree, path: &[LinkName]) -> Result<Option<Found>, TreeStop>
+fn found_at(alloc: Global, tree: &ObjectTree, path: &[LinkName]) -> Result<Option<Found>, Stop>
     requires { IsSoundTree tree.now }
     ensures found { IfOk result (λ o. (t : Keyed) → Shows tree.now t → o ≡ reached_node (walk t path.now)) }
-    ensures memory { IfErr result (λ stop. stop ≡ TreeStop.NoMemory) }
+    ensures memory { IfErr result (λ stop. stop ≡ Stop.NoMemory) }
 {
     match id_at(tree, path) {
         Some(id) => match tell(alloc, tree.node(id)) {
@@ -131,9 +130,7 @@ pub fn lookup<V: Space>(alloc: Global, space: V, path: &[LinkName]) -> Looked<V>
         → IsWithinLimits (V.view space).array (all_blocks s h.driver (Group g ls)) (Group g ls)
         → IfErr result.answer (λ stop. refusal_of stop ≡ None) }
     ensures alike { V.Alike space result.space }
-    ensures stands { (IsErrOf result.answer TreeStop.Failed → ⊥) → V.Stands result.space }
-    ensures later { V.faults space ≤ V.faults result.space }
-    ensures cause { IsErrOf result.answer TreeStop.Failed → Rose (V.faults space) (V.faults result.space) }
+    ensures failed { IsErrOf result.answer Stop.Failed → OneRose (V.faults space) (V.faults result.space) }
 {
     let mut blocks = Blocks::new(alloc, space);
     match open_tree(alloc, &mut blocks) {

@@ -19,7 +19,8 @@ use Rattle.tree_nodes.specs.Shown.{Keyed, KeyedLinks, key_of, node_of, kept_of, 
 use Rattle.tree_nodes.specs.Shown as Keys
 use Rattle.tree_nodes.proofs.ChangeLemmas.{kept_first, find-links}
 use Rattle.tree_nodes.proofs.EditLemmas.{kept_found}
-use Rattle.object_tree.specs.Sound.{IsSoundNode, LeadToNodes, IsSoundTree}
+use Rattle.header_reader.specs.Told.{IsSoundNode}
+use Rattle.object_tree.specs.Sound.{LeadToNodes, IsSoundTree}
 use Rattle.tree_answers.specs.Shown.{ShowsPlain, ShowsLinks, IsTreeOf}
 use Rattle.tree_answers.specs.Kept.{IsAt}
 
@@ -36,7 +37,7 @@ kept_here kept id has = some_of (entry_of kept id.key) has
 pub sound_here : (kept : ObjectTree) (id : NodeId) (n : Node) → IsSoundTree kept → Has kept id → ((e : Kept) → entry_of kept id.key ≡ Some e → n ≡ e.node) → IsSoundNode n
 sound_here kept id n sound has is =
     let (e, at) = kept_here kept id has in
-    subst IsSoundNode (sym (is e at)) (sound.entries id.key e at).node
+    subst IsSoundNode (sym (is e at)) (sound.nodes.entries id.key e at).node
 
 pub root_at : (kept : ObjectTree) (t : Plain) → IsTreeOf kept t → IsAt kept (root_of kept) t
 root_at kept t h = record { keyed = h.keyed; key = h.shown.root; nodes = h.shown.nodes; same = h.same }

@@ -22,7 +22,7 @@ use Rattle.tree_nodes.specs.Nodes.{Kept, is_group}
 use Rattle.tree_nodes.specs.Entries.{entry_of}
 use Rattle.tree_nodes.specs.Shown.{Keyed, KeyedLinks, key_of, node_of, links_of, child_links, AreKept, AreKeptBelow}
 use Rattle.tree_nodes.proofs.ChangeLemmas.{kept_first}
-use Rattle.object_tree.specs.Sound.{IsSoundNode}
+use Rattle.header_reader.specs.Told.{IsSoundNode}
 use Rattle.tree_answers.specs.Shown.{ShowsObject, ShowsPlain, ShowsLinks}
 use Rattle.tree_answers.specs.Kept.{IsAt, stat_by, shown_by, shown_in, line_by}
 use Rattle.tree_answers.proofs.Places.{kept_at}

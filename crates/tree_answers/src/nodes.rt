@@ -3,7 +3,7 @@ ghost use Rattle.dtype.specs.Types.{size_of};
 ghost use Rattle.header_codec.specs.Layouts.{IsOfShape};
 ghost use Rattle.file_model.specs.Objects.{DataInfo, fill_bytes, max_of};
 ghost use Rattle.file_model.specs.Chunks.{chunk_of};
-ghost use Rattle.object_tree.specs.Sound.{IsSoundNode};
+ghost use Rattle.header_reader.specs.Told.{IsSoundNode};
 ghost use Rattle.tree_answers.specs.Kept.{stat_by, shown_by};
 
 use dtype::{Dims, ElemType, Shape};

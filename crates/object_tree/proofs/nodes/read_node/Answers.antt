@@ -1,4 +1,5 @@
 use Rattle.std.proofs.Common.{ap}
+use Rattle.outside.proofs.Causes.{one_later}
 use Rattle.outside.specs.Space.{SpaceView}
 use Rattle.block_space.specs.Blocks.{space_of}
 use Rattle.header_reader.specs.declared.reading.Header.TheVariants as header
@@ -7,20 +8,28 @@ use Rattle.object_tree.proofs.nodes.read_node.Goals as goal
 
 pub returns-in-Ok-Later-clause-found : goal.returns-in-Ok-Later-clause-found
 returns-in-Ok-Later-clause-found g c = λ told met keeps.
-    let f = found_as g.V.Space.view c.args.blocks.now _ (g.V.Space.view (space_of c.args.blocks.now)).array c.args.at c.in-Ok-Later.field-0 header.Later c.in-Ok-Later.field-0-is (c.in-Ok-Later.ensures.found told) met keeps in
-    (f.0, later_found (g.V.Space.view (space_of c.args.blocks.now)).array c.args.ks c.args.at f.0 f.1, f.2)
+    let b = (g.V.Space.view (space_of c.args.blocks.now)).array in
+    let f = found_as g.V.Space.view c.args.blocks.now _ b c.args.at c.in-Ok-Later.field-0 header.Later
+        c.in-Ok-Later.field-0-is (c.in-Ok-Later.ensures.found told) met keeps in
+    (f.0, later_found b c.args.ks c.args.at f.0 f.1, f.2)
 
 pub returns-in-Ok-Known-clause-found : goal.returns-in-Ok-Known-clause-found
 returns-in-Ok-Known-clause-found g c = λ told.
     let same = ap (λ (v : SpaceView). v.array) (g.met.V.Space.alike _ _ c.in-Ok-Known.ensures.alike) in
-    let first = found_as g.V.Space.view c.args.blocks.now _ _ c.args.at c.in-Ok-Known.field-0 (header.Known c.in-Ok-Known.kind) c.in-Ok-Known.field-0-is (c.in-Ok-Known.ensures.found told) in
-    node_after g.V.Space.view c.args.blocks.now _ _ _ _ c.args.ks c.args.at c.in-Ok-Known.kind c.node_of.result same first (c.node_of.ensures.found told)
+    let first = found_as g.V.Space.view c.args.blocks.now _ _ c.args.at c.in-Ok-Known.field-0
+        (header.Known c.in-Ok-Known.node) c.in-Ok-Known.field-0-is (c.in-Ok-Known.ensures.found told) in
+    node_after g.V.Space.view c.args.blocks.now _ _ _ _ c.args.ks c.args.at c.in-Ok-Known.node same first
+    (c.in-Ok-adopt_data.ensures.found told)
 
-pub returns-in-Ok-Known-clause-refused : goal.returns-in-Ok-Known-clause-refused
-returns-in-Ok-Known-clause-refused g c = λ told.
+pub returns-in-Err-adopt_data-clause-refused : goal.returns-in-Err-adopt_data-clause-refused
+returns-in-Err-adopt_data-clause-refused g c = λ told.
     let same = g.met.V.Space.alike _ _ c.in-Ok-Known.ensures.alike in
-    let first = found_as g.V.Space.view c.args.blocks.now _ _ c.args.at c.in-Ok-Known.field-0 (header.Known c.in-Ok-Known.kind) c.in-Ok-Known.field-0-is (c.in-Ok-Known.ensures.found told) in
-    refused_after g.V.Space.view c.args.blocks.now _ _ _ c.args.ks c.args.at c.args.objects c.in-Ok-Known.kind c.node_of.result same first (c.node_of.ensures.refused told)
+    let first = found_as g.V.Space.view c.args.blocks.now _ _ c.args.at c.in-Ok-Known.field-0
+        (header.Known c.in-Ok-Known.node) c.in-Ok-Known.field-0-is (c.in-Ok-Known.ensures.found told) in
+    refused_after g.V.Space.view c.args.blocks.now _ _ _ c.args.ks c.args.at c.args.objects c.in-Ok-Known.node
+    c.in-Err-adopt_data.stop same first (c.in-Err-adopt_data.ensures.refused told)
 
 pub returns-in-Err-clause-refused : goal.returns-in-Err-clause-refused
-returns-in-Err-clause-refused g c = λ told levels met own keeps. all_header_refused _ _ _ c.args.ks c.args.objects c.args.at met c.in-Err.stop (c.in-Err.ensures.refused told met own keeps)
+returns-in-Err-clause-refused g c = λ told levels met own keeps.
+    all_header_refused _ _ _ c.args.ks c.args.objects c.args.at met c.in-Err.stop
+    (c.in-Err.ensures.refused told met own keeps)

@@ -11,28 +11,26 @@ use Rattle.object_tree.specs.Sound.{HasSoundNodes}
 use Rattle.object_tree.proofs.opening.+opening.Given as goal
 
 abbrev pub decreases-open_each : goal.decreases-open_each
-decreases-open_each g l = 4 * l.levels + 2
+decreases-open_each g l = 4 * l.place.levels + 2
 
 abbrev pub decreases-open_link : goal.decreases-open_link
-decreases-open_link g l = 4 * l.levels + 1
+decreases-open_link g l = 4 * l.place.levels + 1
 
 abbrev pub decreases-open_links : goal.decreases-open_links
-decreases-open_links g l = 4 * l.levels + 3
+decreases-open_links g l = 4 * l.place.levels + 3
 
 abbrev pub decreases-open_object : goal.decreases-open_object
-decreases-open_object g l = 4 * l.levels
+decreases-open_object g l = 4 * l.place.levels
 
 abbrev pub invariant-open_each-loop-link : goal.invariant-open_each-loop-link
 invariant-open_each-loop-link g l = record {
-  stands : g.V.Space.Stands (space_of l.blocks);
   listed : (met : List Block) × Keeps g.V.Space.view l.blocks met;
   alike : g.V.Kept.Alike (space_of l.fn.blocks) (space_of l.blocks);
-  later : g.V.Space.faults (space_of l.fn.blocks) ≤ g.V.Space.faults (space_of l.blocks);
-  few : object_count l.tree ≤ 65536;
-  sound : HasSoundNodes l.tree;
+  few : object_count l.opening.tree ≤ 65536;
+  sound : HasSoundNodes l.opening.tree;
   left : l.fn.links.items ≡ l.yielded ++ l.link-iterator.rest.items;
-  opened : (kls : KeyedLinks) × Grows l.fn.tree l.tree l.group.key kls × (names kls ≡ map (λ x. x.name) l.yielded)
+  opened : (kls : KeyedLinks) × Grows l.fn.opening.tree l.opening.tree l.place.group.key kls × (names kls ≡ map (λ x. x.name) l.yielded)
       × (IsTrue g.V.Space.tells → (met : List Block) → Keeps g.V.Space.view l.fn.blocks met → (ls : FullLinks)
-      × AreOpened (g.V.Space.view (space_of l.fn.blocks)).array l.ks l.levels kls ls
+      × AreOpened (g.V.Space.view (space_of l.fn.blocks)).array l.place.ks l.place.levels kls ls
       × (founds ls ≡ map found_of l.yielded) × Keeps g.V.Space.view l.blocks (met ++ blocks_in ls));
 }

@@ -6,7 +6,7 @@ pub line_of-requires : goal.line_of-requires
 line_of-requires c =
     let tree = c.args.tree.now in
     let (e, at) = kept_here tree c.args.id c.requires.has in
-    got_has tree e.links c.args.k c.in-Some.link.now (c.in-Some.ensures.entry e at) (c.requires.sound.entries c.args.id.key e at).linked
+    got_has tree e.links c.args.k c.in-Some.link.now (c.in-Some.ensures.entry e at) (c.requires.sound.nodes.entries c.args.id.key e at).linked
 
 pub unreachable-requires : goal.unreachable-requires
 unreachable-requires c =

@@ -1,6 +1,6 @@
 use Rattle.std.proofs.Common.{subst}
 use Rattle.dtype.specs.Types.{size_of}
-use Rattle.object_tree.specs.Sound.{IsSoundNode}
+use Rattle.header_reader.specs.Told.{IsSoundNode}
 use Rattle.tree_answers.proofs.nodes.stat_of.Goals as goal
 
 pub chunk_of-requires : goal.chunk_of-requires
