@@ -1,5 +1,5 @@
 use Rattle.std.proofs.Common.{refl}
-use Rattle.file_model.specs.RefusedChunks.{BelowKey, AboveKey}
+use Rattle.file_model.specs.RefusedChunks.{BelowKey, AboveKey, OffsetsDisordered}
 use Rattle.storage_reader.proofs.ends.is_in_place.Goals as goal
 
 pub returns-then-not-is_from-clause-no : goal.returns-then-not-is_from-clause-no
@@ -8,4 +8,11 @@ returns-then-not-is_from-clause-no c = λ no done cs before here a b node.
 
 pub returns-then-not-is_below-clause-no : goal.returns-then-not-is_below-clause-no
 returns-then-not-is_below-clause-no c = λ no done cs before here a b node.
-    AboveKey (λ below. let yes = (c.is_below.ensures cs (rw c.in-Some.is at here) b).1 below in cc) refl
+    let ends = rw c.in-Some.is at here in
+    AboveKey ((c.is_from.ensures cs ends b).0 c.if-not-is_from.false) (λ below. let yes = (c.is_below.ensures cs ends b).1 below in cc) refl
+
+pub returns-clause-no : goal.returns-clause-no
+returns-clause-no c = λ no done cs before here a b node.
+    let ends = rw c.in-Some.is at here in
+    OffsetsDisordered ((c.is_from.ensures cs ends b).0 c.if-not-is_from.false) ((c.is_below.ensures cs ends b).0 c.if-not-is_below.false)
+    (λ ordered. let yes = (c.follows.ensures done cs before ends a b).1 ordered in cc) refl
