@@ -10,7 +10,7 @@ use Rattle.dtype.specs.Products.{product}
 use Rattle.node_codec.specs.declared.chunk_node.ChunkKey.{ChunkKey}
 use Rattle.file_model.specs.Chunks.{Chunk, Under, AreAscending, AreChildren, IsAbove, IsBelow, IsFrom, IsStored, comes_before}
 use Rattle.outside.specs.Blocks.{IsBlockRefused}
-use Rattle.file_model.specs.RefusedChunks.{RefusedChunks, AreChunksRefused, IsAccepted, IsChunkRefused, ChunkBlock, WrongBytes, AboveKey}
+use Rattle.file_model.specs.RefusedChunks.{RefusedChunks, AreChunksRefused, IsAccepted, IsChunkRefused, ChunkBlock, AboveKey}
 use Rattle.storage_reader.specs.Nodes.{child_at, refused_child}
 use Rattle.storage_reader.specs.declared.form.Form.{Form}
 use Rattle.storage_reader.proofs.Children.{AreRead, IsNext, none_read, all_read, child_read, offsets_refused}

@@ -10,7 +10,7 @@ use Rattle.node_codec.specs.declared.chunk_node.ChunkNode.{ChunkNode}
 use Rattle.node_codec.specs.declared.chunk_node.ChunkKey.{ChunkKey}
 use Rattle.file_model.specs.Chunks.{Chunk, Under, AreAscending, AreChildren, IsNode, IsStored}
 use Rattle.file_model.specs.RefusedChunks.{RefusedChunks, IsAccepted, NodeBlock, NoNode, InChildren, chunk_level, AreOffsetsRefused, AreChunksRefused}
-use Rattle.storage_reader.specs.Ends.{HaveEnds, IsInPlace, Spans}
+use Rattle.storage_reader.specs.Ends.{AreSpanned, HaveEnds, IsInPlace, Spans}
 use Rattle.storage_reader.specs.Nodes.{AreUnder, IsIndexAt, IsIndexRefused, IsNodeAt, IsUnderRefused, IsWholeIndex, child_at, refused_child, node_block}
 use Rattle.storage_reader.specs.declared.ends.Ends.{Ends}
 use Rattle.storage_reader.specs.declared.form.Form.{Form}
@@ -55,15 +55,14 @@ module _ (b : Array) (f : Form) where
   node_spans level at n ends xs bs spelled is block h = record {
     chunks = h.chunks;
     part = subst (λ (l : List Block). IsIndexAt b f level at h.chunks (l ++ bs)) (sym block) (node_held level at n h.chunks bs spelled is h.part);
-    ordered = h.ordered;
-    ends_are = h.ends_are;
+    spanned = h.spanned;
   }
 
   -- the index under a root of any level
   pub whole : (at : ℕ) (n : ChunkNode) (ends : Option Ends) (xs bs : List Block) → IsNodeAt b f at n → xs ≡ node_block f at ∷ [] → Spans (AreUnder b f n) ends bs → IsWholeIndex b f at (xs ++ bs)
   whole at n ends xs bs spelled block h =
       let s = node_spans n.level at n ends xs bs spelled refl block h in
-      (s.chunks, (n.level, s.part, s.ordered))
+      (s.chunks, (n.level, s.part, s.spanned.ordered))
 
   pub root_level : (at : ℕ) (n : ChunkNode) → IsNodeAt b f at n → n.level ≡ chunk_level b f.k f.rank at
   root_level at n h = ap (λ (x : ChunkNode). x.level) h.value
@@ -76,8 +75,7 @@ module _ (b : Array) (f : Form) where
   leaf_spans n ends bs is (cs, held, ordered) ends_of = record {
     chunks = cs;
     part = held;
-    ordered = ordered;
-    ends_are = ends_of cs bs (subst (λ (m : ℕ). AreChildren (child_at b f m) true n.keys n.children cs bs) is held);
+    spanned = record { ordered = ordered; ends_are = ends_of cs bs (subst (λ (m : ℕ). AreChildren (child_at b f m) true n.keys n.children cs bs) is held) };
   }
 
   below : (level : ℕ) → suc level - 1 ≡ level
@@ -95,7 +93,7 @@ module _ (b : Array) (f : Form) where
 -- ---- the nodes under a node, as far as they were read
 
 pub no_node_read : (Child : Under) (Refused : Bounds → RefusedChunks) (node : ℕ) (keys : List ChunkKey) (children : List ℕ) → Spans (AreRead Child Refused node keys children 0) None []
-no_node_read Child Refused node keys children = record { chunks = []; part = none_read Child Refused node keys children; ordered = tt; ends_are = refl }
+no_node_read Child Refused node keys children = record { chunks = []; part = none_read Child Refused node keys children; spanned = record { ordered = tt; ends_are = refl } }
 
 module _ (b : Array) (f : Form) (node : ℕ) (m : ChunkNode) (some : 0 < m.level) where
   -- the first nodes were read
@@ -105,30 +103,28 @@ module _ (b : Array) (f : Form) (node : ℕ) (m : ChunkNode) (some : 0 < m.level
   module _ (n : ℕ) (before here : Option Ends) (low high : ChunkKey) (a : ℕ) (at : IsNext m.keys m.children n low high a) (xs ys : List Block) (h : NodesRead n before xs) (x : Spans (IsIndexAt b f (m.level - 1) a) here ys) where
     -- the next node was read, and its offsets stand in order
     pub node_more : (after : Option Ends)
-        → ((done cs : List Chunk) → HaveEnds before done → HaveEnds here cs → AreAscending done → AreAscending cs → IsInPlace (n == 0) low.offset high.offset (drop (n + 1) m.children) done cs)
+        → ((done cs : List Chunk) → AreSpanned before done → AreSpanned here cs → IsInPlace (n == 0) low.offset high.offset (drop (n + 1) m.children) done cs)
         → ((done cs : List Chunk) → HaveEnds before done → HaveEnds here cs → HaveEnds after (done ++ cs)) → NodesRead (n + 1) after (xs ++ ys)
     node_more after place joined =
-        let y = place h.chunks x.chunks h.ends_are x.ends_are h.ordered x.ordered in
+        let y = place h.chunks x.chunks h.spanned x.spanned in
         record {
           chunks = h.chunks ++ x.chunks;
           part = child_read (child_at b f m.level) (refused_child b f m.level node) node m.keys m.children n low high a at h.chunks xs h.part x.chunks ys (inner_child b f m.level low a x.chunks ys some x.part) y.from y.below;
-          ordered = y.ordered;
-          ends_are = joined h.chunks x.chunks h.ends_are x.ends_are;
+          spanned = record { ordered = y.ordered; ends_are = joined h.chunks x.chunks h.spanned.ends_are x.spanned.ends_are };
         }
 
     -- the offsets under the next node don't stand in order
     pub place_stopped : (e : Bounds) (met : List Block)
-        → ((done cs : List Chunk) → HaveEnds before done → HaveEnds here cs → AreAscending done → AreAscending cs → AreOffsetsRefused node (n == 0) low.offset high.offset (drop (n + 1) m.children) done cs (Malformed node Tree))
+        → ((done cs : List Chunk) → AreSpanned before done → AreSpanned here cs → AreOffsetsRefused node (n == 0) low.offset high.offset (drop (n + 1) m.children) done cs (Malformed node Tree))
         → IsUnderRefused b f node m e met (Malformed node Tree)
     place_stopped e met place =
         offsets_refused (child_at b f m.level) (refused_child b f m.level node) node m.keys m.children n low high a at h.chunks xs h.part x.chunks ys (inner_child b f m.level low a x.chunks ys some x.part) e met (Malformed node Tree)
-        (place h.chunks x.chunks h.ends_are x.ends_are h.ordered x.ordered)
+        (place h.chunks x.chunks h.spanned x.spanned)
 
   -- all nodes were read
   pub nodes_done : (n : ℕ) (ends : Option Ends) (bs : List Block) → n ≡ length m.children → NodesRead n ends bs → Spans (AreUnder b f m) ends bs
   nodes_done n ends bs end h = record {
     chunks = h.chunks;
     part = all_read (child_at b f m.level) (refused_child b f m.level node) node m.keys m.children n h.chunks bs end h.part;
-    ordered = h.ordered;
-    ends_are = h.ends_are;
+    spanned = h.spanned;
   }

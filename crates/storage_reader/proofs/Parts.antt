@@ -1,5 +1,5 @@
 -- Parts that are taken one after the other, and what is refused behind a part that was taken.
-use Rattle.std.proofs.Common.{◌≡◌, ℕ, ◌<◌, List, [], ◌∷◌, ◌++◌, Option, Result, Ok, Err, IfErr, IfSome, IsErrAnd, IsErrOf, refl, sym, subst}
+use Rattle.std.proofs.Common.{◌≡◌, ℕ, ◌<◌, List, [], ◌∷◌, ◌++◌, Option, Result, Ok, Err, IfErr, IfSome, IsErrAnd, IsErrOf, sym, subst}
 use Rattle.std.proofs.lemmas.List.{append_assoc, append-nil}
 use Rattle.std.proofs.lemmas.Result.{err_from_is_err_and}
 use Rattle.std.specs.List.{Contains}
@@ -8,7 +8,7 @@ use Rattle.h5_base.specs.declared.refusal.Refusal.{Refusal}
 use Rattle.h5_base.specs.declared.refusal.Stop.{Stop}
 use Rattle.h5_base.specs.declared.refusal.Stop.TheVariants.{Failed}
 use Rattle.h5_base.specs.Refusals.{refusal_of}
-use Rattle.outside.specs.Blocks.{Block, Bounds, AllInside, AllSome, IsBlockRefused}
+use Rattle.outside.specs.Blocks.{Block, Bounds, AllInside, AllSome}
 use Rattle.outside.specs.Space.{SpaceView, bounds_of}
 use Rattle.block_space.specs.Blocks.{Keeps, Refuses, Takes, space_of}
 use Rattle.block_space.specs.declared.blocks.Blocks.{Blocks}

@@ -56,10 +56,13 @@ module _ (b : Array) (k : ℕ) (i : DataInfo) (x : Elements) (of : AreOf i x) wh
       same_rank = rank ∙ sym (ap (λ s. length s.dims) of.shape)
 
       pub index_found : (bs : List Block) → IsWholeIndex b f tree bs → (cs : List Chunk) × IsStoredBy b k i i.layout cs bs
-      index_found bs (cs, h) = (cs, indexed_by cs bs (subst (λ (y : Bool). IsIndexed y b k (length i.shape.dims) sizes tree cs bs) (sym on)
-          (subst (λ (n : ℕ). IsIndexed true b k n sizes tree cs bs) same_rank
-          (subst (λ (s : List ℕ). IsIndexed true b k f.rank s tree cs bs) sizes_are
-          (subst (λ (n : ℕ). IsIndexed true b n f.rank f.sizes tree cs bs) k_is h)))))
+      index_found bs (cs, h) = (
+        cs,
+        indexed_by cs bs (subst (λ (y : Bool). IsIndexed y b k (length i.shape.dims) sizes tree cs bs) (sym on)
+            (subst (λ (n : ℕ). IsIndexed true b k n sizes tree cs bs) same_rank
+            (subst (λ (s : List ℕ). IsIndexed true b k f.rank s tree cs bs) sizes_are
+            (subst (λ (n : ℕ). IsIndexed true b n f.rank f.sizes tree cs bs) k_is h)))),
+      )
 
       pub index_stopped : (e : Bounds) (met : List Block) (r : Refusal) → IsWholeRefused b f tree e met r → IsStorageRefused b e k i met r
       index_stopped e met r h = InIndex tree sizes (of.layout ∙ is) (reads ∙ on)

@@ -27,9 +27,13 @@ pub record IsInPlace (first : Bool) (low high : List ℕ) (later : List ℕ) (do
   pub below : IsBelow later high here
   pub ordered : AreAscending (done ++ here)
 
--- The chunks of a part that has these blocks ascend from the first to the last of these ends.
+-- the chunks ascend, from the first to the last of these ends
+pub record AreSpanned (ends : Option Ends) (cs : List Chunk) : Type 0 where
+  pub ordered : AreAscending cs
+  pub ends_are : HaveEnds ends cs
+
+-- a part with these blocks has chunks that ascend from the first to the last of these ends
 pub record Spans (Part : List Chunk → List Block → Type 0) (ends : Option Ends) (bs : List Block) : Type 0 where
   pub chunks : List Chunk
   pub part : Part chunks bs
-  pub ordered : AreAscending chunks
-  pub ends_are : HaveEnds ends chunks
+  pub spanned : AreSpanned ends chunks

@@ -1,6 +1,6 @@
 -- What stands in a chunk index of a form: its nodes, what stands under each by its level, and why one is refused.
 -- Cited by the functions that read a chunk index.
-use Rattle.std.specs.Prelude.{◌≡◌, ℕ, zero, suc, true, List, [], ◌∷◌}
+use Rattle.std.specs.Prelude.{ℕ, zero, suc, true, List, []}
 use Rattle.outside.specs.Array.{Array, bytes_of}
 use Rattle.outside.specs.Blocks.{Block, Bounds}
 use Rattle.h5_base.specs.declared.refusal.Refusal.{Refusal}

@@ -42,10 +42,13 @@ pub returns-clause-found : goal.returns-clause-found
 returns-clause-found g c = λ met keeps.
     let f = c.args.form.now in
     let block : Block = record { start = c.args.at; len = f.bytes } in
-    let fits = c.are_multiples.ensures.0 c.if-not-are_multiples.false in
-    (block ∷ [], record {
-      bytes = omega (arith, c.requires.form.bytes_is);
-      multiples = rw (c.as_slice.ensures, c.as_slice-2.ensures, c.requires.rank) at fits;
-      chunk = refl;
-      block = ap (λ n. record { start = c.args.at; len = n } ∷ []) c.requires.form.bytes_is;
-    }, c.in_ok-adopt.ensures.found met keeps)
+    let fits = c.are_multiples.ensures.0 c.if-not-are_multiples.false in (
+      block ∷ [],
+      record {
+        bytes = omega (arith, c.requires.form.bytes_is);
+        multiples = rw (c.as_slice.ensures, c.as_slice-2.ensures, c.requires.rank) at fits;
+        chunk = refl;
+        block = ap (λ n. record { start = c.args.at; len = n } ∷ []) c.requires.form.bytes_is;
+      },
+      c.in_ok-adopt.ensures.found met keeps,
+    )

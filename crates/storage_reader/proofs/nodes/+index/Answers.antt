@@ -1,7 +1,7 @@
 use Rattle.std.proofs.Common.{◌≡◌, ◌+◌, ◌-◌, ◌<◌, ◌++◌, ◌∷◌, [], sym, subst, length, refl, arith, get_or, ap}
 use Rattle.std.proofs.lemmas.Result.{IfOk-weaker}
 use Rattle.h5_base.specs.declared.kinds.BlockKind.TheVariants.{Tree}
-use Rattle.outside.specs.Space.{SpaceView}
+use Rattle.outside.specs.Space.{SpaceView, bounds_of}
 use Rattle.outside.proofs.Causes.{one_later}
 use Rattle.block_space.specs.Blocks.{Refuses, Takes, array_of, space_of}
 use Rattle.block_space.proofs.Stopped.{if_err}
@@ -91,11 +91,13 @@ adopt_nodes-returns-in_err-here-clause-refused g t c = λ tells.
     let stop = c.in_err-here.field-0.0 in
     let refused : Refuses g.V.Space.view c.loop-i.blocks (IsIndexRefused b f (n.level - 1) a) stop =
     subst (λ (v : SpaceView). Refuses g.V.Space.view c.loop-i.blocks (IsIndexRefused v.array f (n.level - 1) a) stop) (sym e) (rw (← same) (c.in_err-here.ensures.refused tells)) in
-    handed c.from_residual.result stop _ c.from_residual.ensures.1
+    handed c.from_residual.result stop (Refuses g.V.Space.view c.args.blocks.now (IsUnderRefused b f c.args.at n)) c.from_residual.ensures.1
     (refuses_then g.V.Space.view c.args.blocks.now c.loop-i.blocks (NodesRead b f c.args.at n c.requires.level i c.loop-i.before) (IsIndexRefused b f (n.level - 1) a) (IsUnderRefused b f c.args.at n) stop e
     (c.loop-i.invariant.read tells) refused
-    (λ met own xs r h kept x. child_refused (child_at b f n.level) (refused_child b f n.level c.args.at) c.args.at n.keys n.children i low high a at h.chunks xs h.part _ met r
-    (inner_refused b f n.level c.args.at low a _ (met ++ xs) r c.requires.level x)))
+    (λ met own xs r h kept x.
+    let bounds = bounds_of (g.V.Space.view (space_of c.args.blocks.now)) own in
+    child_refused (child_at b f n.level) (refused_child b f n.level c.args.at) c.args.at n.keys n.children i low high a at h.chunks xs h.part bounds met r
+    (inner_refused b f n.level c.args.at low a bounds (met ++ xs) r c.requires.level x)))
 
 pub adopt_nodes-returns-then-not-is_in_place-clause-refused : goal.adopt_nodes-returns-then-not-is_in_place-clause-refused
 adopt_nodes-returns-then-not-is_in_place-clause-refused g t c = λ tells met own keeps.
@@ -119,7 +121,7 @@ adopt_nodes-returns-then-not-is_in_place-clause-refused g t c = λ tells met own
     let y = found (met ++ x.0) x.2 in
     rw c.malformed.ensures
     (place_stopped b f c.args.at n c.requires.level i c.loop-i.before ends low high a at x.0 y.0 x.1 y.1 _ met
-    (λ done cs before here p q. rw (← same) (c.if-not-is_in_place.ensures.no refl done cs before here p q c.args.at)))
+    (λ done cs before here. rw (← same) (c.if-not-is_in_place.ensures.no refl done cs before here c.args.at)))
 
 pub adopt_nodes-loop-i-preserved : goal.adopt_nodes-loop-i-preserved
 adopt_nodes-loop-i-preserved g t c =
@@ -140,11 +142,11 @@ adopt_nodes-loop-i-preserved g t c =
     record {
       read = λ tells.
           let found : Takes g.V.Space.view c.loop-i.blocks c.adopt_node.new.blocks (Spans (IsIndexAt b f (n.level - 1) a) ends) =
-    subst (λ (v : SpaceView). Takes g.V.Space.view c.loop-i.blocks c.adopt_node.new.blocks (Spans (IsIndexAt v.array f (n.level - 1) a) ends)) (sym e) (rw (← same) (c.in_ok-here.ensures.found tells)) in
+          subst (λ (v : SpaceView). Takes g.V.Space.view c.loop-i.blocks c.adopt_node.new.blocks (Spans (IsIndexAt v.array f (n.level - 1) a) ends)) (sym e) (rw (← same) (c.in_ok-here.ensures.found tells)) in
           takes_then g.V.Space.view c.args.blocks.now c.loop-i.blocks c.adopt_node.new.blocks (NodesRead b f c.args.at n c.requires.level i c.loop-i.before) (Spans (IsIndexAt b f (n.level - 1) a) ends)
           (NodesRead b f c.args.at n c.requires.level (i + 1) c.join-before.result) (c.loop-i.invariant.read tells) found
           (λ xs ys h x. node_more b f c.args.at n c.requires.level i c.loop-i.before ends low high a at xs ys h x c.join-before.result
-          (λ done cs before here p q. rw (← same) (c.if-not-is_in_place.ensures.yes refl done cs before here p q)) c.join-before.ensures);
+          (λ done cs before here. rw (← same) (c.if-not-is_in_place.ensures.yes refl done cs before here)) c.join-before.ensures);
       alike = g.V.Kept.transitive _ _ _ c.loop-i.invariant.alike c.adopt_node.ensures.alike;
       listed = c.in_ok-here.ensures.listed;
     }

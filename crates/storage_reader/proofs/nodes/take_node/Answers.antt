@@ -1,4 +1,4 @@
-use Rattle.std.proofs.Common.{◌≡◌, ◌∙◌, ◌++◌, ◌∷◌, [], refl, sym, subst, ap}
+use Rattle.std.proofs.Common.{◌∙◌, ◌++◌, ◌∷◌, [], refl, sym, subst, ap}
 use Rattle.outside.specs.Array.{bytes_of}
 use Rattle.outside.specs.Blocks.{IsBlockRefused}
 use Rattle.h5_base.specs.declared.kinds.BlockKind.TheVariants.{Tree}

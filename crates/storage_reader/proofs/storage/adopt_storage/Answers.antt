@@ -31,7 +31,7 @@ returns-in_ok-form-in-Chunked-clause-found g c = λ tells.
     let has = c.in_ok-form-in-Chunked.ensures in
     let rank : f.rank ≡ length x.shape.now.dims = rank_of f tree (size_of x.elem) c.in-Chunked.sizes x.shape.now.dims x.layout.now has.form has.sizes c.in-Chunked.is c.requires.stored in
     on_ok_weaker c.adopt_index.result
-    (λ found i of. takes_as g.V.Space.view c.args.blocks.now c.adopt_index.new.blocks (IsWholeIndex b f tree) (λ bs. (cs : List Chunk) × IsStoredBy b c.args.k i i.layout cs bs) found
+    (λ found i of. takes_as g.V.Space.view c.args.blocks.now _ (IsWholeIndex b f tree) (λ bs. (cs : List Chunk) × IsStoredBy b c.args.k i i.layout cs bs) found
     (index_found b c.args.k i x of tree c.in-Chunked.sizes c.in-Chunked.is c.is_read.result c.is_read.ensures f has.k has.sizes rank c.if-not-is_read.false))
     (c.adopt_index.ensures.found tells)
 
