@@ -28,8 +28,8 @@ stored_not e rank sizes node met later key at cs bs r h ordered room (ChunkBlock
     let own : Block = record { start = at; len = product sizes } in
     let room' : Room e met (own ∷ later) = subst (λ (l : List Block). Room e met (l ++ later)) h.block room in
     not_refused e met own kind.Raw r (free_of e met own later room') k
-stored_not e rank sizes node met later key at cs bs r h ordered room (WrongBytes wrong line) = wrong h.bytes
-stored_not e rank sizes node met later key at cs bs r h ordered room (WrongOffset wrong line) = wrong h.multiples
+stored_not e rank sizes node met later key at cs bs r h ordered room (WrongBytes accepted wrong line) = wrong h.bytes
+stored_not e rank sizes node met later key at cs bs r h ordered room (WrongOffset accepted bytes wrong line) = wrong h.multiples
 
 -- ---- nodes
 
@@ -45,8 +45,8 @@ ascending_back (c ∷ cs) ds h = ascending_back cs ds h.1
 offsets_not : (node : ℕ) (first : Bool) (k l rest : List ℕ) (done here : List Chunk) (r : Refusal) → IsFrom first k here → IsBelow rest l here → AreAscending (done ++ here)
     → AreOffsetsRefused node first k l rest done here r → ⊥
 offsets_not node first k l rest done here r from below ordered (BelowKey wrong line) = wrong from
-offsets_not node first k l rest done here r from below ordered (AboveKey wrong line) = wrong below
-offsets_not node first k l rest done here r from below ordered (OffsetsDisordered wrong line) = wrong ordered
+offsets_not node first k l rest done here r from below ordered (AboveKey k_from wrong line) = wrong below
+offsets_not node first k l rest done here r from below ordered (OffsetsDisordered k_from k_below wrong line) = wrong ordered
 
 children_not : (e : Bounds) (node : ℕ) (Child : Under) (Refused : RefusedChunks) → IsOne Child → NotUnder e Child Refused → (first : Bool) (keys : List ChunkKey) (children : List ℕ) (cs : List Chunk) (bs : List Block)
     (done : List Chunk) (met later : List Block) (r : Refusal) → AreChildren Child first keys children cs bs → AreAscending (done ++ cs) → Room e met (bs ++ later)
@@ -92,8 +92,8 @@ node_not b e k rank level Child Refused one not met later key at cs bs r h order
 
     go : IsChunkNodeRefused b e k rank level Child Refused met at r → ⊥
     go (NodeBlock x) = not_refused e met own kind.Tree r (free_of e met own (h.below ++ later) room') x
-    go (NoNode none line) = none h.node h.spelled h.level_is
-    go (InChildren n spelled x) =
+    go (NoNode accepted none line) = none h.node h.spelled h.level_is
+    go (InChildren n accepted spelled is x) =
         let node : n ≡ h.node = spelled.value ∙ sym h.spelled.value in
         let x' = subst (λ (y : ChunkNode). AreChunksRefused at Child (Refused at) true y.keys y.children [] (met ++ own ∷ []) r) node x in
         children_not e at Child (Refused at) one (not at) true h.node.keys h.node.children cs h.below [] (met ++ own ∷ []) later r h.children ordered (room_after e met (own ∷ []) (h.below ++ later) room') x'

@@ -4,6 +4,7 @@ use Rattle.std.specs.Prelude.{◌≡◌, ◌≢◌, ◌⊎◌, ℕ, zero, suc, �
 use Rattle.std.specs.Prelude.{length}
 use Rattle.outside.specs.Array.{Array, bytes_of}
 use Rattle.outside.specs.Blocks.{Block, Bounds, undefined}
+use Rattle.h5_base.specs.declared.kinds.BlockKind.{BlockKind}
 use Rattle.h5_base.specs.declared.kinds.BlockKind.TheVariants as kind
 use Rattle.dtype.specs.Products.{product}
 use Rattle.dtype.specs.Types.{size_of}
@@ -21,25 +22,32 @@ use Rattle.file_model.specs.Chunks.{IsIndex, is_read}
 abbrev pub RefusedChunks : Type 1
 RefusedChunks = List Block → ChunkKey → ℕ → Refusal → Type 0
 
--- a chunk is refused: its block, its number of bytes, or its offset
+-- a block is accepted after those that were met before: there is no reason to refuse it
+abbrev pub IsAccepted : Bounds → List Block → Block → BlockKind → Type 0
+IsAccepted e met x kind = (r : Refusal) → ¬ IsBlockRefused e met x kind r
+
+-- A chunk is refused for its block, else for its number of bytes, else for its offset.
 pub data IsChunkRefused (e : Bounds) (rank : ℕ) (sizes : List ℕ) (node : ℕ) (met : List Block) (key : ChunkKey)
     (at : ℕ) (r : Refusal) : Type 0 where
   ChunkBlock : IsBlockRefused e met (record { start = at; len = product sizes }) kind.Raw r
       → IsChunkRefused e rank sizes node met key at r
-  WrongBytes : key.bytes ≢ product sizes → r ≡ Malformed node kind.Tree → IsChunkRefused e rank sizes node met key at r
-  WrongOffset : (AreMultiples (chunk_sizes rank sizes) key.offset → ⊥) → r ≡ Malformed node kind.Tree
+  WrongBytes : IsAccepted e met (record { start = at; len = product sizes }) kind.Raw → key.bytes ≢ product sizes
+      → r ≡ Malformed node kind.Tree → IsChunkRefused e rank sizes node met key at r
+  WrongOffset : IsAccepted e met (record { start = at; len = product sizes }) kind.Raw → key.bytes ≡ product sizes
+      → ¬ AreMultiples (chunk_sizes rank sizes) key.offset → r ≡ Malformed node kind.Tree
       → IsChunkRefused e rank sizes node met key at r
 
--- the offsets under a child are refused: for the key before them, the key behind them, or the offsets before them
+-- The offsets under a child are refused for the key before them, else for the key behind them, else for the offsets
+-- before them.
 pub data AreOffsetsRefused (node : ℕ) (first : Bool) (k l : List ℕ) (rest : List ℕ) (done here : List Chunk)
     (r : Refusal) : Type 0 where
-  BelowKey : (IsFrom first k here → ⊥) → r ≡ Malformed node kind.Tree
+  BelowKey : ¬ IsFrom first k here → r ≡ Malformed node kind.Tree → AreOffsetsRefused node first k l rest done here r
+  AboveKey : IsFrom first k here → ¬ IsBelow rest l here → r ≡ Malformed node kind.Tree
       → AreOffsetsRefused node first k l rest done here r
-  AboveKey : (IsBelow rest l here → ⊥) → r ≡ Malformed node kind.Tree
-      → AreOffsetsRefused node first k l rest done here r
-  OffsetsDisordered : (AreAscending (done ++ here) → ⊥) → r ≡ Malformed node kind.Tree
-      → AreOffsetsRefused node first k l rest done here r
+  OffsetsDisordered : IsFrom first k here → IsBelow rest l here → ¬ AreAscending (done ++ here)
+      → r ≡ Malformed node kind.Tree → AreOffsetsRefused node first k l rest done here r
 
+-- a child is refused, or the offsets under it once all under it was read, or a later child
 abbrev pub AreChunksRefused : (node : ℕ) → Under → RefusedChunks → Bool → List ChunkKey → List ℕ → (done : List Chunk)
     → List Block → Refusal → Type 0
 AreChunksRefused node Child RefusedChild first keys [] done met r = ⊥
@@ -51,14 +59,18 @@ AreChunksRefused node Child RefusedChild first (k ∷ l ∷ ks) (a ∷ rest) don
     × (AreOffsetsRefused node first k.offset l.offset rest done here r
     ⊎ AreChunksRefused node Child RefusedChild false (l ∷ ks) rest (done ++ here) (met ++ own) r))
 
+-- A node of this level is refused for its block, else for its bytes, which spell none of this level, else for what stands
+-- under it.
 pub data IsChunkNodeRefused (b : Array) (e : Bounds) (k rank level : ℕ) (Child : Under) (RefusedChild : ℕ
     → RefusedChunks) (met : List Block) (at : ℕ) (r : Refusal) : Type 0 where
   NodeBlock : IsBlockRefused e met (record { start = at; len = chunk_node_len k rank }) kind.Tree r
       → IsChunkNodeRefused b e k rank level Child RefusedChild met at r
-  NoNode : ((n : ChunkNode) → SpellsChunkNode k rank n (bytes_of b at (chunk_node_len k rank)) → n.level ≡ level → ⊥)
+  NoNode : IsAccepted e met (record { start = at; len = chunk_node_len k rank }) kind.Tree
+      → ((n : ChunkNode) → SpellsChunkNode k rank n (bytes_of b at (chunk_node_len k rank)) → n.level ≡ level → ⊥)
       → r ≡ Malformed at kind.Tree
       → IsChunkNodeRefused b e k rank level Child RefusedChild met at r
-  InChildren : (n : ChunkNode) → SpellsChunkNode k rank n (bytes_of b at (chunk_node_len k rank))
+  InChildren : (n : ChunkNode) → IsAccepted e met (record { start = at; len = chunk_node_len k rank }) kind.Tree
+      → SpellsChunkNode k rank n (bytes_of b at (chunk_node_len k rank)) → n.level ≡ level
       → AreChunksRefused at Child (RefusedChild at) true n.keys n.children []
       (met ++ record { start = at; len = chunk_node_len k rank } ∷ []) r
       → IsChunkNodeRefused b e k rank level Child RefusedChild met at r

@@ -3,7 +3,7 @@ use Rattle.std.proofs.Common.{◌≡◌, ℕ, ◌+◌, ◌<◌, ◌==◌, Bool, 
 use Rattle.std.proofs.lemmas.Bool.Decides.{nat_tests}
 use Rattle.std.proofs.Math.Seq.{drop-length}
 use Rattle.std.proofs.lemmas.List.{append_assoc, append-nil, drop_more}
-use Rattle.outside.specs.Blocks.{Block}
+use Rattle.outside.specs.Blocks.{Block, Bounds}
 use Rattle.node_codec.specs.declared.chunk_node.ChunkKey.{ChunkKey}
 use Rattle.file_model.specs.Chunks.{Chunk, Under, AreChildren, IsFrom, IsBelow}
 use Rattle.h5_base.specs.declared.refusal.Refusal.{Refusal}
@@ -11,24 +11,9 @@ use Rattle.file_model.specs.RefusedChunks.{RefusedChunks, AreOffsetsRefused, Are
 
 -- What was read of the first children: with the others' they are all children's, and as the others are refused, the
 -- children are.
-pub record AreRead (Child : Under) (Refused : RefusedChunks) (node : ℕ) (keys : List ChunkKey) (children : List ℕ) (n : ℕ) (met : List Block) (cs : List Chunk) (bs : List Block) : Type 0 where
+pub record AreRead (Child : Under) (Refused : Bounds → RefusedChunks) (node : ℕ) (keys : List ChunkKey) (children : List ℕ) (n : ℕ) (cs : List Chunk) (bs : List Block) : Type 0 where
   pub held : (later : List Chunk) (more : List Block) → AreChildren Child (n == 0) (drop n keys) (drop n children) later more → AreChildren Child true keys children (cs ++ later) (bs ++ more)
-  pub refused : (r : Refusal) → AreChunksRefused node Child Refused (n == 0) (drop n keys) (drop n children) cs (met ++ bs) r → AreChunksRefused node Child Refused true keys children [] met r
-
-pub none_read : (Child : Under) (Refused : RefusedChunks) (node : ℕ) (keys : List ChunkKey) (children : List ℕ) (met : List Block) → AreRead Child Refused node keys children 0 met [] []
-none_read Child Refused node keys children met = record {
-  held = λ later more h. h;
-  refused = λ r h. subst (λ (l : List Block). AreChunksRefused node Child Refused true keys children [] l r) (append-nil met) h;
-}
-
--- all were read
-pub all_read : (Child : Under) (Refused : RefusedChunks) (node : ℕ) (keys : List ChunkKey) (children : List ℕ) (n : ℕ) (met : List Block) (cs : List Chunk) (bs : List Block) → n ≡ length children → AreRead Child Refused node keys children n met cs bs
-    → AreChildren Child true keys children cs bs
-all_read Child Refused node keys children n met cs bs end h =
-    let none : drop n children ≡ [] = rw end (drop-length children) in
-    let last : AreChildren Child (n == 0) (drop n keys) (drop n children) [] [] = subst (λ (l : List ℕ). AreChildren Child (n == 0) (drop n keys) l [] []) (sym none) (refl, refl) in
-    let whole : AreChildren Child true keys children (cs ++ []) (bs ++ []) = h.held [] [] last in
-    subst (λ (l : List Chunk). AreChildren Child true keys children l bs) (append-nil cs) (subst (λ (l : List Block). AreChildren Child true keys children (cs ++ []) l) (append-nil bs) whole)
+  pub refused : (e : Bounds) (met : List Block) (r : Refusal) → AreChunksRefused node Child (Refused e) (n == 0) (drop n keys) (drop n children) cs (met ++ bs) r → AreChunksRefused node Child (Refused e) true keys children [] met r
 
 -- the child that comes next, and the keys on both sides of it
 pub record IsNext (keys : List ChunkKey) (children : List ℕ) (n : ℕ) (k l : ChunkKey) (a : ℕ) : Type 0 where
@@ -47,65 +32,71 @@ next_child keys children n k l lt more key next = record {
 not_first : (n : ℕ) → (n + 1 == 0) ≡ false
 not_first n = grind (arith, nat_tests)
 
--- children as they are split
-split : (Child : Under) (first : Bool) (ks : List ChunkKey) (rest : List ℕ) (cs : List Chunk) (bs : List Block) (keys later : List ChunkKey) (children : List ℕ) (k l : ChunkKey) (a : ℕ) → keys ≡ k ∷ ks → ks ≡ l ∷ later → children ≡ a ∷ rest
-    → AreChildren Child first (k ∷ l ∷ later) (a ∷ rest) cs bs → AreChildren Child first keys children cs bs
-split Child first ks rest cs bs keys later children k l a key next child h =
-    subst (λ (x : List ChunkKey). AreChildren Child first x children cs bs) (sym key)
-    (subst (λ (x : List ChunkKey). AreChildren Child first (k ∷ x) children cs bs) (sym next)
-    (subst (λ (x : List ℕ). AreChildren Child first (k ∷ l ∷ later) x cs bs) (sym child) h))
+module _ (Child : Under) (Refused : Bounds → RefusedChunks) (node : ℕ) (keys : List ChunkKey) (children : List ℕ) where
+  pub none_read : AreRead Child Refused node keys children 0 [] []
+  none_read = record {
+    held = λ later more h. h;
+    refused = λ e met r h. subst (λ (l : List Block). AreChunksRefused node Child (Refused e) true keys children [] l r) (append-nil met) h;
+  }
 
-split_refused : (node : ℕ) (Child : Under) (Refused : RefusedChunks) (first : Bool) (ks : List ChunkKey) (rest : List ℕ) (done : List Chunk) (met : List Block) (r : Refusal) (keys later : List ChunkKey) (children : List ℕ) (k l : ChunkKey) (a : ℕ)
-    → keys ≡ k ∷ ks → ks ≡ l ∷ later → children ≡ a ∷ rest
-    → AreChunksRefused node Child Refused first (k ∷ l ∷ later) (a ∷ rest) done met r → AreChunksRefused node Child Refused first keys children done met r
-split_refused node Child Refused first ks rest done met r keys later children k l a key next child h =
-    subst (λ (x : List ChunkKey). AreChunksRefused node Child Refused first x children done met r) (sym key)
-    (subst (λ (x : List ChunkKey). AreChunksRefused node Child Refused first (k ∷ x) children done met r) (sym next)
-    (subst (λ (x : List ℕ). AreChunksRefused node Child Refused first (k ∷ l ∷ later) x done met r) (sym child) h))
+  -- all were read
+  pub all_read : (n : ℕ) (cs : List Chunk) (bs : List Block) → n ≡ length children → AreRead Child Refused node keys children n cs bs → AreChildren Child true keys children cs bs
+  all_read n cs bs end h =
+      let none : drop n children ≡ [] = rw end (drop-length children) in
+      let last : AreChildren Child (n == 0) (drop n keys) (drop n children) [] [] = subst (λ (l : List ℕ). AreChildren Child (n == 0) (drop n keys) l [] []) (sym none) (refl, refl) in
+      let whole : AreChildren Child true keys children (cs ++ []) (bs ++ []) = h.held [] [] last in
+      subst (λ (l : List Chunk). AreChildren Child true keys children l bs) (append-nil cs) (subst (λ (l : List Block). AreChildren Child true keys children (cs ++ []) l) (append-nil bs) whole)
 
--- the next child is refused
-pub child_refused : (Child : Under) (Refused : RefusedChunks) (node : ℕ) (keys : List ChunkKey) (children : List ℕ) (n : ℕ) (met : List Block) (cs : List Chunk) (bs : List Block) (k l : ChunkKey) (a : ℕ) (r : Refusal)
-    → AreRead Child Refused node keys children n met cs bs → IsNext keys children n k l a → Refused (met ++ bs) k a r → AreChunksRefused node Child Refused true keys children [] met r
-child_refused Child Refused node keys children n met cs bs k l a r h at x =
-    h.refused r (split_refused node Child Refused (n == 0) (drop (n + 1) keys) (drop (n + 1) children) cs (met ++ bs) r (drop n keys) (drop (n + 1 + 1) keys) (drop n children) k l a at.key_is at.next_is at.child_is (inl x))
+  module _ (n : ℕ) (k l : ChunkKey) (a : ℕ) (at : IsNext keys children n k l a) where
+    -- children as they are split
+    split : (cs : List Chunk) (bs : List Block) → AreChildren Child (n == 0) (k ∷ l ∷ drop (n + 1 + 1) keys) (a ∷ drop (n + 1) children) cs bs → AreChildren Child (n == 0) (drop n keys) (drop n children) cs bs
+    split cs bs h =
+        subst (λ (x : List ChunkKey). AreChildren Child (n == 0) x (drop n children) cs bs) (sym at.key_is)
+        (subst (λ (x : List ChunkKey). AreChildren Child (n == 0) (k ∷ x) (drop n children) cs bs) (sym at.next_is)
+        (subst (λ (x : List ℕ). AreChildren Child (n == 0) (k ∷ l ∷ drop (n + 1 + 1) keys) x cs bs) (sym at.child_is) h))
 
--- the offsets under the next child are refused
-pub offsets_refused : (Child : Under) (Refused : RefusedChunks) (node : ℕ) (keys : List ChunkKey) (children : List ℕ) (n : ℕ) (met : List Block) (cs : List Chunk) (bs : List Block) (k l : ChunkKey) (a : ℕ) (here : List Chunk) (own : List Block) (r : Refusal)
-    → AreRead Child Refused node keys children n met cs bs → IsNext keys children n k l a → Child k a here own → AreOffsetsRefused node (n == 0) k.offset l.offset (drop (n + 1) children) cs here r
-    → AreChunksRefused node Child Refused true keys children [] met r
-offsets_refused Child Refused node keys children n met cs bs k l a here own r h at child x =
-    h.refused r (split_refused node Child Refused (n == 0) (drop (n + 1) keys) (drop (n + 1) children) cs (met ++ bs) r (drop n keys) (drop (n + 1 + 1) keys) (drop n children) k l a at.key_is at.next_is at.child_is
-    (inr (here, own, child, inl x)))
+    split_refused : (e : Bounds) (done : List Chunk) (met : List Block) (r : Refusal) → AreChunksRefused node Child (Refused e) (n == 0) (k ∷ l ∷ drop (n + 1 + 1) keys) (a ∷ drop (n + 1) children) done met r
+        → AreChunksRefused node Child (Refused e) (n == 0) (drop n keys) (drop n children) done met r
+    split_refused e done met r h =
+        subst (λ (x : List ChunkKey). AreChunksRefused node Child (Refused e) (n == 0) x (drop n children) done met r) (sym at.key_is)
+        (subst (λ (x : List ChunkKey). AreChunksRefused node Child (Refused e) (n == 0) (k ∷ x) (drop n children) done met r) (sym at.next_is)
+        (subst (λ (x : List ℕ). AreChunksRefused node Child (Refused e) (n == 0) (k ∷ l ∷ drop (n + 1 + 1) keys) x done met r) (sym at.child_is) h))
 
--- the next child is read
-pub child_read : (Child : Under) (Refused : RefusedChunks) (node : ℕ) (keys : List ChunkKey) (children : List ℕ) (n : ℕ) (met : List Block) (cs : List Chunk) (bs : List Block) (k l : ChunkKey) (a : ℕ) (here : List Chunk) (own : List Block)
-    → AreRead Child Refused node keys children n met cs bs → IsNext keys children n k l a → Child k a here own → IsFrom (n == 0) k.offset here → IsBelow (drop (n + 1) children) l.offset here
-    → AreRead Child Refused node keys children (n + 1) met (cs ++ here) (bs ++ own)
-child_read Child Refused node keys children n met cs bs k l a here own h at child from below = record { held = held_on; refused = refused_on }
-  where
-    rest : List ℕ
-    rest = drop (n + 1) children
+    module _ (cs : List Chunk) (bs : List Block) (h : AreRead Child Refused node keys children n cs bs) where
+      -- the next child is refused
+      pub child_refused : (e : Bounds) (met : List Block) (r : Refusal) → Refused e (met ++ bs) k a r → AreChunksRefused node Child (Refused e) true keys children [] met r
+      child_refused e met r x = h.refused e met r (split_refused e cs (met ++ bs) r (inl x))
 
-    ls : List ChunkKey
-    ls = drop (n + 1 + 1) keys
+      module _ (here : List Chunk) (own : List Block) (child : Child k a here own) where
+        -- the offsets under the next child are refused
+        pub offsets_refused : (e : Bounds) (met : List Block) (r : Refusal) → AreOffsetsRefused node (n == 0) k.offset l.offset (drop (n + 1) children) cs here r → AreChunksRefused node Child (Refused e) true keys children [] met r
+        offsets_refused e met r x = h.refused e met r (split_refused e cs (met ++ bs) r (inr (here, own, child, inl x)))
 
-    held_on : (later : List Chunk) (more : List Block) → AreChildren Child (n + 1 == 0) (drop (n + 1) keys) rest later more → AreChildren Child true keys children ((cs ++ here) ++ later) ((bs ++ own) ++ more)
-    held_on later more x =
-        let y : AreChildren Child false (l ∷ ls) rest later more = subst (λ (t : Bool). AreChildren Child t (l ∷ ls) rest later more) (not_first n) (subst (λ (z : List ChunkKey). AreChildren Child (n + 1 == 0) z rest later more) at.next_is x) in
-        let z : AreChildren Child true keys children (cs ++ (here ++ later)) (bs ++ (own ++ more)) =
-        h.held (here ++ later) (own ++ more) (split Child (n == 0) (drop (n + 1) keys) rest (here ++ later) (own ++ more) (drop n keys) ls (drop n children) k l a at.key_is at.next_is at.child_is
-        (here, later, own, more, child, y, from, below, refl, refl)) in
-        subst (λ (c : List Chunk). AreChildren Child true keys children c ((bs ++ own) ++ more)) (sym (append_assoc cs here later))
-        (subst (λ (b : List Block). AreChildren Child true keys children (cs ++ (here ++ later)) b) (sym (append_assoc bs own more)) z)
+        -- the next child is read
+        pub child_read : IsFrom (n == 0) k.offset here → IsBelow (drop (n + 1) children) l.offset here → AreRead Child Refused node keys children (n + 1) (cs ++ here) (bs ++ own)
+        child_read from below = record { held = held_on; refused = refused_on }
+          where
+            rest : List ℕ
+            rest = drop (n + 1) children
 
-    refused_on : (r : Refusal) → AreChunksRefused node Child Refused (n + 1 == 0) (drop (n + 1) keys) rest (cs ++ here) (met ++ (bs ++ own)) r → AreChunksRefused node Child Refused true keys children [] met r
-    refused_on r x =
-        let y : AreChunksRefused node Child Refused false (l ∷ ls) rest (cs ++ here) (met ++ (bs ++ own)) r =
-        subst (λ (t : Bool). AreChunksRefused node Child Refused t (l ∷ ls) rest (cs ++ here) (met ++ (bs ++ own)) r) (not_first n)
-        (subst (λ (z : List ChunkKey). AreChunksRefused node Child Refused (n + 1 == 0) z rest (cs ++ here) (met ++ (bs ++ own)) r) at.next_is x) in
-        let z = subst (λ (b : List Block). AreChunksRefused node Child Refused false (l ∷ ls) rest (cs ++ here) b r) (sym (append_assoc met bs own)) y in
-        h.refused r (split_refused node Child Refused (n == 0) (drop (n + 1) keys) rest cs (met ++ bs) r (drop n keys) ls (drop n children) k l a at.key_is at.next_is at.child_is
-        (inr (here, own, child, inr z)))
+            ls : List ChunkKey
+            ls = drop (n + 1 + 1) keys
+
+            held_on : (later : List Chunk) (more : List Block) → AreChildren Child (n + 1 == 0) (drop (n + 1) keys) rest later more → AreChildren Child true keys children ((cs ++ here) ++ later) ((bs ++ own) ++ more)
+            held_on later more x =
+                let y : AreChildren Child false (l ∷ ls) rest later more = subst (λ (t : Bool). AreChildren Child t (l ∷ ls) rest later more) (not_first n) (subst (λ (z : List ChunkKey). AreChildren Child (n + 1 == 0) z rest later more) at.next_is x) in
+                let z : AreChildren Child true keys children (cs ++ (here ++ later)) (bs ++ (own ++ more)) =
+                h.held (here ++ later) (own ++ more) (split (here ++ later) (own ++ more) (here, later, own, more, child, y, from, below, refl, refl)) in
+                subst (λ (c : List Chunk). AreChildren Child true keys children c ((bs ++ own) ++ more)) (sym (append_assoc cs here later))
+                (subst (λ (b : List Block). AreChildren Child true keys children (cs ++ (here ++ later)) b) (sym (append_assoc bs own more)) z)
+
+            refused_on : (e : Bounds) (met : List Block) (r : Refusal) → AreChunksRefused node Child (Refused e) (n + 1 == 0) (drop (n + 1) keys) rest (cs ++ here) (met ++ (bs ++ own)) r → AreChunksRefused node Child (Refused e) true keys children [] met r
+            refused_on e met r x =
+                let y : AreChunksRefused node Child (Refused e) false (l ∷ ls) rest (cs ++ here) (met ++ (bs ++ own)) r =
+                subst (λ (t : Bool). AreChunksRefused node Child (Refused e) t (l ∷ ls) rest (cs ++ here) (met ++ (bs ++ own)) r) (not_first n)
+                (subst (λ (z : List ChunkKey). AreChunksRefused node Child (Refused e) (n + 1 == 0) z rest (cs ++ here) (met ++ (bs ++ own)) r) at.next_is x) in
+                let z = subst (λ (b : List Block). AreChunksRefused node Child (Refused e) false (l ∷ ls) rest (cs ++ here) b r) (sym (append_assoc met bs own)) y in
+                h.refused e met r (split_refused e cs (met ++ bs) r (inr (here, own, child, inr z)))
 
 -- the test for the last child
 pub not_last : (n count : ℕ) → n < count → (n + 1 == count) ≡ false → n + 1 < count

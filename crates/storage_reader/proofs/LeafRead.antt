@@ -1,43 +1,56 @@
 -- The chunks under a node of level 0 as far as they were read.
-use Rattle.std.proofs.Common.{◌≡◌, ℕ, ◌+◌, ◌<◌, ◌==◌, Bool, true, false, IsTrue, List, [], ◌∷◌, ◌++◌, length, drop, IfSome, refl, sym, ◌∙◌, subst, arith}
-use Rattle.std.proofs.lemmas.List.{append_assoc, append-nil, length-drop}
+use Rattle.std.proofs.Common.{◌≡◌, ℕ, ◌+◌, ◌<◌, ◌==◌, Bool, true, false, IsTrue, List, [], ◌∷◌, ◌++◌, length, drop, refl, sym, ◌∙◌, subst, arith}
+use Rattle.std.proofs.lemmas.List.{length-drop}
+use Rattle.outside.specs.Array.{Array}
 use Rattle.outside.specs.Blocks.{Block, Bounds}
-use Rattle.h5_base.specs.declared.kinds.BlockKind.TheVariants.{Tree}
-use Rattle.node_codec.specs.declared.chunk_node.ChunkKey.{ChunkKey}
-use Rattle.file_model.specs.Chunks.{Chunk, AreAscending, AreChildren, IsAbove, IsBelow, IsFrom, IsStored, comes_before}
+use Rattle.h5_base.specs.declared.kinds.BlockKind.TheVariants.{Raw, Tree}
+use Rattle.h5_base.specs.declared.refusal.Refusal.{Refusal}
 use Rattle.h5_base.specs.declared.refusal.Refusal.TheVariants.{Malformed}
-use Rattle.file_model.specs.RefusedChunks.{AreChunksRefused, IsChunkRefused, AboveKey}
-use Rattle.h5_base.specs.Refusals.{refusal_of}
-use Rattle.block_reader.specs.declared.stop.TreeStop.{TreeStop}
-use Rattle.block_reader.proofs.Stopped.{if_some}
-use Rattle.storage_reader.proofs.Children.{AreRead, IsNext, none_read, all_read, child_read, child_refused, offsets_refused}
+use Rattle.dtype.specs.Products.{product}
+use Rattle.node_codec.specs.declared.chunk_node.ChunkKey.{ChunkKey}
+use Rattle.file_model.specs.Chunks.{Chunk, Under, AreAscending, AreChildren, IsAbove, IsBelow, IsFrom, IsStored, comes_before}
+use Rattle.outside.specs.Blocks.{IsBlockRefused}
+use Rattle.file_model.specs.RefusedChunks.{RefusedChunks, AreChunksRefused, IsAccepted, IsChunkRefused, ChunkBlock, AboveKey}
+use Rattle.storage_reader.specs.Nodes.{child_at, refused_child}
+use Rattle.storage_reader.specs.declared.form.Form.{Form}
+use Rattle.storage_reader.proofs.Children.{AreRead, IsNext, none_read, all_read, child_read, offsets_refused}
 use Rattle.storage_reader.proofs.Orders.{not_before_itself, one_more, above_more}
 
+-- ---- one chunk
+
+abbrev pub one_chunk : ChunkKey → ℕ → Chunk
+one_chunk k a = record { offset = k.offset; at = a }
+
+-- a chunk is refused for its block
+pub chunk_block : (e : Bounds) (rank : ℕ) (sizes : List ℕ) (node : ℕ) (met : List Block) (key : ChunkKey) (at len : ℕ) (r : Refusal) → len ≡ product sizes
+    → IsBlockRefused e met (record { start = at; len = len }) Raw r → IsChunkRefused e rank sizes node met key at r
+chunk_block e rank sizes node met key at len r is h = ChunkBlock (subst (λ (n : ℕ). IsBlockRefused e met (record { start = at; len = n }) Raw r) is h)
+
+-- the block by the bytes of a chunk
+pub accepted_chunk : (e : Bounds) (met : List Block) (at len : ℕ) (sizes : List ℕ) → len ≡ product sizes → IsAccepted e met (record { start = at; len = len }) Raw → IsAccepted e met (record { start = at; len = product sizes }) Raw
+accepted_chunk e met at len sizes is h = subst (λ (n : ℕ). IsAccepted e met (record { start = at; len = n }) Raw) is h
+
+-- the children of a node of level 0 are chunks
+pub stored_child : (b : Array) (f : Form) (level : ℕ) (key : ChunkKey) (at : ℕ) (cs : List Chunk) (bs : List Block) → level ≡ 0 → IsStored f.rank f.sizes key at cs bs → child_at b f level key at cs bs
+stored_child b f level key at cs bs is h = subst (λ (m : ℕ). child_at b f m key at cs bs) (sym is) h
+
+pub refused_chunk : (b : Array) (f : Form) (level node : ℕ) (e : Bounds) (met : List Block) (key : ChunkKey) (at : ℕ) (r : Refusal) → level ≡ 0 → IsChunkRefused e f.rank f.sizes node met key at r → refused_child b f level node e met key at r
+refused_chunk b f level node e met key at r is h = subst (λ (m : ℕ). refused_child b f m node e met key at r) (sym is) h
+
+-- ---- the chunks of a node
+
 -- the first n chunks were read, and the next key is above them
-pub record ChunksRead (e : Bounds) (rank : ℕ) (sizes : List ℕ) (node : ℕ) (keys : List ChunkKey) (children : List ℕ) (n : ℕ) (Keeps : List Block → Type 0) (met : List Block) : Type 0 where
+pub record ChunksRead (Child : Under) (Refused : Bounds → RefusedChunks) (node : ℕ) (keys : List ChunkKey) (children : List ℕ) (n : ℕ) (bs : List Block) : Type 0 where
   pub chunks : List Chunk
-  pub blocks : List Block
-  pub read : AreRead (IsStored rank sizes) (IsChunkRefused e rank sizes node) node keys children n met chunks blocks
+  pub read : AreRead Child Refused node keys children n chunks bs
   pub ordered : AreAscending chunks
   pub above : (key : ChunkKey) (later : List ChunkKey) → drop n keys ≡ key ∷ later → n < length children → IsAbove key.offset chunks
-  pub kept : Keeps (met ++ blocks)
-
-pub no_chunk_read : (e : Bounds) (rank : ℕ) (sizes : List ℕ) (node : ℕ) (keys : List ChunkKey) (children : List ℕ) (Keeps : List Block → Type 0) (met : List Block) → Keeps met
-    → ChunksRead e rank sizes node keys children 0 Keeps met
-no_chunk_read e rank sizes node keys children Keeps met kept = record {
-  chunks = [];
-  blocks = [];
-  read = none_read (IsStored rank sizes) (IsChunkRefused e rank sizes node) node keys children met;
-  ordered = tt;
-  above = λ key later is lt. tt;
-  kept = subst Keeps (sym (append-nil met)) kept;
-}
 
 below_all : (later : List ℕ) (key : List ℕ) (cs : List Chunk) → (0 < length later → IsAbove key cs) → IsBelow later key cs
 below_all [] key cs h = tt
 below_all (a ∷ later) key cs h = h (omega arith)
 
-pub below_dropped : (children : List ℕ) (n : ℕ) (key : List ℕ) (cs : List Chunk) → (n < length children → IsAbove key cs) → IsBelow (drop n children) key cs
+below_dropped : (children : List ℕ) (n : ℕ) (key : List ℕ) (cs : List Chunk) → (n < length children → IsAbove key cs) → IsBelow (drop n children) key cs
 below_dropped children n key cs h = below_all (drop n children) key cs (λ some. h (omega (arith, length-drop n children, some)))
 
 above_dropped : (later : List ℕ) (key : List ℕ) (cs : List Chunk) → 0 < length later → IsBelow later key cs → IsAbove key cs
@@ -51,51 +64,42 @@ from_itself false key at = (not_before_itself key, tt)
 same_key : (k l : ChunkKey) (ks ls : List ChunkKey) → k ∷ ks ≡ l ∷ ls → k ≡ l
 same_key k l ks ls h = cc
 
-pub chunk_more : (e : Bounds) (rank : ℕ) (sizes : List ℕ) (node : ℕ) (keys : List ChunkKey) (children : List ℕ) (n : ℕ) (Keeps Then : List Block → Type 0) (met : List Block) (k l : ChunkKey) (a : ℕ) (own : List Block)
-    → ChunksRead e rank sizes node keys children n Keeps met → n < length children → IsNext keys children n k l a → IsStored rank sizes k a (record { offset = k.offset; at = a } ∷ []) own
-    → ((met : List Block) → Keeps met → Then (met ++ own)) → (n + 1 < length children → IsTrue (comes_before k.offset l.offset)) → ChunksRead e rank sizes node keys children (n + 1) Then met
-chunk_more e rank sizes node keys children n Keeps Then met k l a own h lt at stored next before = record {
-  chunks = h.chunks ++ one ∷ [];
-  blocks = h.blocks ++ own;
-  read = child_read (IsStored rank sizes) (IsChunkRefused e rank sizes node) node keys children n met h.chunks h.blocks k l a (one ∷ []) own h.read at stored (from_itself (n == 0) k.offset a)
-      (below_dropped children (n + 1) l.offset (one ∷ []) (λ more. (before more, tt)));
-  ordered = one_more k.offset h.chunks one h.ordered above_here;
-  above = λ key later is more.
-      let same : l ≡ key = same_key l key (drop (n + 1 + 1) keys) later (sym at.next_is ∙ is) in
-      subst (λ (x : ChunkKey). IsAbove x.offset (h.chunks ++ one ∷ [])) same (above_more l.offset h.chunks one above_here (before more));
-  kept = subst Then (append_assoc met h.blocks own) (next (met ++ h.blocks) h.kept);
-}
-  where
-    one : Chunk
-    one = record { offset = k.offset; at = a }
+module _ (Child : Under) (Refused : Bounds → RefusedChunks) (node : ℕ) (keys : List ChunkKey) (children : List ℕ) where
+  pub no_chunk_read : ChunksRead Child Refused node keys children 0 []
+  no_chunk_read = record {
+    chunks = [];
+    read = none_read Child Refused node keys children;
+    ordered = tt;
+    above = λ key later is lt. tt;
+  }
 
-    above_here : IsAbove k.offset h.chunks
-    above_here = h.above k (drop (n + 1) keys) at.key_is lt
+  module _ (n : ℕ) (k l : ChunkKey) (a : ℕ) (at : IsNext keys children n k l a) (bs own : List Block) (h : ChunksRead Child Refused node keys children n bs) (child : Child k a (one_chunk k a ∷ []) own) where
+    pub chunk_more : n < length children → (n + 1 < length children → IsTrue (comes_before k.offset l.offset)) → ChunksRead Child Refused node keys children (n + 1) (bs ++ own)
+    chunk_more lt before = record {
+      chunks = h.chunks ++ one ∷ [];
+      read = child_read Child Refused node keys children n k l a at h.chunks bs h.read (one ∷ []) own child (from_itself (n == 0) k.offset a)
+          (below_dropped children (n + 1) l.offset (one ∷ []) (λ more. (before more, tt)));
+      ordered = one_more k.offset h.chunks one h.ordered above_here;
+      above = λ key later is more.
+          let same : l ≡ key = same_key l key (drop (n + 1 + 1) keys) later (sym at.next_is ∙ is) in
+          subst (λ (x : ChunkKey). IsAbove x.offset (h.chunks ++ one ∷ [])) same (above_more l.offset h.chunks one above_here (before more));
+    }
+      where
+        one : Chunk
+        one = one_chunk k a
 
--- the next chunk is refused
-pub chunk_stopped : (e : Bounds) (rank : ℕ) (sizes : List ℕ) (node : ℕ) (keys : List ChunkKey) (children : List ℕ) (n : ℕ) (Keeps : List Block → Type 0) (met : List Block) (k l : ChunkKey) (a : ℕ) (stop : TreeStop)
-    → ChunksRead e rank sizes node keys children n Keeps met → IsNext keys children n k l a
-    → ((met : List Block) → Keeps met → IfSome (refusal_of stop) (IsChunkRefused e rank sizes node met k a))
-    → IfSome (refusal_of stop) (AreChunksRefused node (IsStored rank sizes) (IsChunkRefused e rank sizes node) true keys children [] met)
-chunk_stopped e rank sizes node keys children n Keeps met k l a stop h at refused =
-    if_some (refusal_of stop) (IsChunkRefused e rank sizes node (met ++ h.blocks) k a) (AreChunksRefused node (IsStored rank sizes) (IsChunkRefused e rank sizes node) true keys children [] met)
-    (λ r x. child_refused (IsStored rank sizes) (IsChunkRefused e rank sizes node) node keys children n met h.chunks h.blocks k l a r h.read at x)
-    (refused (met ++ h.blocks) h.kept)
+        above_here : IsAbove k.offset h.chunks
+        above_here = h.above k (drop (n + 1) keys) at.key_is lt
 
--- the key behind a chunk isn't above it
-pub key_stopped : (e : Bounds) (rank : ℕ) (sizes : List ℕ) (node : ℕ) (keys : List ChunkKey) (children : List ℕ) (n : ℕ) (Keeps : List Block → Type 0) (met : List Block) (k l : ChunkKey) (a : ℕ) (own : List Block)
-    → ChunksRead e rank sizes node keys children n Keeps met → IsNext keys children n k l a → IsStored rank sizes k a (record { offset = k.offset; at = a } ∷ []) own → n + 1 < length children → comes_before k.offset l.offset ≡ false
-    → AreChunksRefused node (IsStored rank sizes) (IsChunkRefused e rank sizes node) true keys children [] met (Malformed node Tree)
-key_stopped e rank sizes node keys children n Keeps met k l a own h at stored more behind =
-    offsets_refused (IsStored rank sizes) (IsChunkRefused e rank sizes node) node keys children n met h.chunks h.blocks k l a (record { offset = k.offset; at = a } ∷ []) own (Malformed node Tree) h.read at stored
-    (AboveKey (λ below.
-    let above = above_dropped (drop (n + 1) children) l.offset (record { offset = k.offset; at = a } ∷ []) (omega (arith, length-drop (n + 1) children)) below in
-    let yes = above.0 in
-    cc) refl)
+    -- the key behind a chunk isn't above it
+    pub key_stopped : (e : Bounds) (met : List Block) → n + 1 < length children → comes_before k.offset l.offset ≡ false → AreChunksRefused node Child (Refused e) true keys children [] met (Malformed node Tree)
+    key_stopped e met more behind =
+        offsets_refused Child Refused node keys children n k l a at h.chunks bs h.read (one_chunk k a ∷ []) own child e met (Malformed node Tree)
+        (AboveKey (from_itself (n == 0) k.offset a) (λ below.
+        let above = above_dropped (drop (n + 1) children) l.offset (one_chunk k a ∷ []) (omega (arith, length-drop (n + 1) children)) below in
+        let yes = above.0 in
+        cc) refl)
 
--- all chunks were read
-pub chunks_done : (e : Bounds) (rank : ℕ) (sizes : List ℕ) (node : ℕ) (keys : List ChunkKey) (children : List ℕ) (n : ℕ) (Keeps : List Block → Type 0) (met : List Block) → n ≡ length children
-    → ChunksRead e rank sizes node keys children n Keeps met
-    → (cs : List Chunk) × (bs : List Block) × AreChildren (IsStored rank sizes) true keys children cs bs × AreAscending cs × Keeps (met ++ bs)
-chunks_done e rank sizes node keys children n Keeps met end h =
-    (h.chunks, h.blocks, all_read (IsStored rank sizes) (IsChunkRefused e rank sizes node) node keys children n met h.chunks h.blocks end h.read, h.ordered, h.kept)
+  -- all chunks were read
+  pub chunks_done : (n : ℕ) (bs : List Block) → n ≡ length children → ChunksRead Child Refused node keys children n bs → (cs : List Chunk) × AreChildren Child true keys children cs bs × AreAscending cs
+  chunks_done n bs end h = (h.chunks, all_read Child Refused node keys children n h.chunks bs end h.read, h.ordered)

@@ -2,8 +2,7 @@ pub mod ChunkSizes
 pub mod Orders
 pub mod Children
 pub mod Places
-pub mod StopLaws
+pub mod Parts
 pub mod LeafRead
 pub mod NodeLaws
-pub mod InnerRead
 pub mod StorageLaws

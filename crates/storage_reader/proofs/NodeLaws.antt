@@ -1,110 +1,130 @@
--- A node of a chunk index: held with its children, or refused.
-use Rattle.std.proofs.Common.{◌≡◌, ℕ, zero, suc, ◌-◌, ◌<◌, true, List, [], ◌∷◌, ◌++◌, Option, IfSome, refl, sym, ◌∙◌, ap, subst, arith}
-use Rattle.std.proofs.lemmas.List.{append_assoc}
-use Rattle.outside.specs.Array.{Array, bytes_of}
+-- A node of a chunk index and the nodes under it: held, or refused.
+use Rattle.std.proofs.Common.{◌≡◌, ℕ, zero, suc, ◌+◌, ◌-◌, ◌<◌, ◌==◌, true, List, [], ◌∷◌, ◌++◌, length, drop, Option, None, refl, sym, ◌∙◌, ap, subst, arith}
+use Rattle.outside.specs.Array.{Array}
 use Rattle.outside.specs.Blocks.{Block, Bounds}
+use Rattle.outside.specs.Blocks.{IsBlockRefused}
 use Rattle.h5_base.specs.declared.kinds.BlockKind.TheVariants.{Tree}
-use Rattle.node_codec.specs.ChunkNodes.{SpellsChunkNode, chunk_node_len}
+use Rattle.h5_base.specs.declared.refusal.Refusal.{Refusal}
+use Rattle.h5_base.specs.declared.refusal.Refusal.TheVariants.{Malformed}
 use Rattle.node_codec.specs.declared.chunk_node.ChunkNode.{ChunkNode}
 use Rattle.node_codec.specs.declared.chunk_node.ChunkKey.{ChunkKey}
-use Rattle.file_model.specs.Chunks.{Chunk, AreAscending, AreChildren, IsIndex, IsIndexed, IsNode, IsStored}
-use Rattle.h5_base.specs.declared.refusal.Refusal.{Refusal}
-use Rattle.outside.specs.Blocks.{IsBlockRefused}
-use Rattle.h5_base.specs.declared.refusal.Refusal.TheVariants.{Malformed}
-use Rattle.file_model.specs.RefusedChunks.{AreChunksRefused, IsChunkRefused, IsChunkIndexRefused, NodeBlock, NoNode, InChildren, chunk_level}
-use Rattle.h5_base.specs.Refusals.{refusal_of}
-use Rattle.block_reader.specs.declared.stop.TreeStop.{TreeStop}
-use Rattle.block_reader.proofs.Stopped.{if_some}
-use Rattle.storage_reader.specs.Ends.{HaveEnds}
-use Rattle.storage_reader.specs.Nodes.{Taken, under, refused_under}
+use Rattle.file_model.specs.Chunks.{Chunk, Under, AreAscending, AreChildren, IsNode, IsStored}
+use Rattle.file_model.specs.RefusedChunks.{RefusedChunks, IsAccepted, NodeBlock, NoNode, InChildren, chunk_level, AreOffsetsRefused, AreChunksRefused}
+use Rattle.storage_reader.specs.Ends.{AreSpanned, HaveEnds, IsInPlace, Spans}
+use Rattle.storage_reader.specs.Nodes.{AreUnder, IsIndexAt, IsIndexRefused, IsNodeAt, IsUnderRefused, IsWholeIndex, child_at, refused_child, node_block}
 use Rattle.storage_reader.specs.declared.ends.Ends.{Ends}
+use Rattle.storage_reader.specs.declared.form.Form.{Form}
+use Rattle.storage_reader.proofs.Children.{AreRead, IsNext, none_read, all_read, child_read, offsets_refused}
 
-node_block : (b : Array) (e : Bounds) (k rank : ℕ) (sizes : List ℕ) (level : ℕ) (met : List Block) (at : ℕ) (r : Refusal) → IsBlockRefused e met (record { start = at; len = chunk_node_len k rank }) Tree r
-    → IsChunkIndexRefused b e k rank sizes level met at r
-node_block b e k rank sizes zero met at r h = NodeBlock h
-node_block b e k rank sizes (suc level) met at r h = NodeBlock h
+-- ---- a node and what stands under it
 
-pub block_stopped : (b : Array) (e : Bounds) (k rank : ℕ) (sizes : List ℕ) (level : ℕ) (met : List Block) (at : ℕ) (stop : TreeStop)
-    → IfSome (refusal_of stop) (IsBlockRefused e met (record { start = at; len = chunk_node_len k rank }) Tree) → IfSome (refusal_of stop) (IsChunkIndexRefused b e k rank sizes level met at)
-block_stopped b e k rank sizes level met at stop h =
-    if_some (refusal_of stop) (IsBlockRefused e met (record { start = at; len = chunk_node_len k rank }) Tree) (IsChunkIndexRefused b e k rank sizes level met at)
-    (λ r x. node_block b e k rank sizes level met at r x) h
+module _ (b : Array) (f : Form) where
+  pub node_block_refused : (level at : ℕ) (e : Bounds) (met : List Block) (r : Refusal) → IsBlockRefused e met (node_block f at) Tree r → IsIndexRefused b f level at e met r
+  node_block_refused zero at e met r h = NodeBlock h
+  node_block_refused (suc level) at e met r h = NodeBlock h
 
-pub no_node : (b : Array) (e : Bounds) (k rank : ℕ) (sizes : List ℕ) (level : ℕ) (met : List Block) (at : ℕ)
-    → ((n : ChunkNode) → SpellsChunkNode k rank n (bytes_of b at (chunk_node_len k rank)) → n.level ≡ level → ⊥) → IsChunkIndexRefused b e k rank sizes level met at (Malformed at Tree)
-no_node b e k rank sizes zero met at h = NoNode h refl
-no_node b e k rank sizes (suc level) met at h = NoNode h refl
+  pub no_node : (level at : ℕ) (e : Bounds) (met : List Block) → IsAccepted e met (node_block f at) Tree → ((n : ChunkNode) → IsNodeAt b f at n → n.level ≡ level → ⊥) → IsIndexRefused b f level at e met (Malformed at Tree)
+  no_node zero at e met accepted h = NoNode accepted h refl
+  no_node (suc level) at e met accepted h = NoNode accepted h refl
 
-in_children : (b : Array) (e : Bounds) (k rank : ℕ) (sizes : List ℕ) (level : ℕ) (met : List Block) (at : ℕ) (n : ChunkNode) (r : Refusal) → SpellsChunkNode k rank n (bytes_of b at (chunk_node_len k rank))
-    → AreChunksRefused at (under b k rank sizes level) (refused_under b e k rank sizes level at) true n.keys n.children [] (met ++ record { start = at; len = chunk_node_len k rank } ∷ []) r
-    → IsChunkIndexRefused b e k rank sizes level met at r
-in_children b e k rank sizes zero met at n r spelled h = InChildren n spelled h
-in_children b e k rank sizes (suc level) met at n r spelled h = InChildren n spelled h
+  -- a block spells one node
+  pub other_level : (level at : ℕ) (n m : ChunkNode) → IsNodeAt b f at n → (n.level ≡ level → ⊥) → IsNodeAt b f at m → m.level ≡ level → ⊥
+  other_level level at n m h other g is = other (ap (λ (x : ChunkNode). x.level) (h.value ∙ sym g.value) ∙ is)
 
-pub children_stopped : (b : Array) (e : Bounds) (k rank : ℕ) (sizes : List ℕ) (level : ℕ) (met : List Block) (at : ℕ) (n : ChunkNode) (stop : TreeStop) → SpellsChunkNode k rank n (bytes_of b at (chunk_node_len k rank))
-    → n.level ≡ level
-    → IfSome (refusal_of stop) (AreChunksRefused at (under b k rank sizes n.level) (refused_under b e k rank sizes n.level at) true n.keys n.children [] (met ++ record { start = at; len = chunk_node_len k rank } ∷ []))
-    → IfSome (refusal_of stop) (IsChunkIndexRefused b e k rank sizes level met at)
-children_stopped b e k rank sizes level met at n stop spelled is h =
-    if_some (refusal_of stop) (AreChunksRefused at (under b k rank sizes n.level) (refused_under b e k rank sizes n.level at) true n.keys n.children [] (met ++ record { start = at; len = chunk_node_len k rank } ∷ []))
-    (IsChunkIndexRefused b e k rank sizes level met at)
-    (λ r x. subst (λ (m : ℕ). IsChunkIndexRefused b e k rank sizes m met at r) is (in_children b e k rank sizes n.level met at n r spelled x)) h
+  in_children : (level at : ℕ) (n : ChunkNode) (e : Bounds) (met : List Block) (r : Refusal) → IsAccepted e met (node_block f at) Tree → IsNodeAt b f at n → n.level ≡ level
+      → AreChunksRefused at (child_at b f level) (refused_child b f level at e) true n.keys n.children [] (met ++ node_block f at ∷ []) r → IsIndexRefused b f level at e met r
+  in_children zero at n e met r accepted spelled is h = InChildren n accepted spelled is h
+  in_children (suc level) at n e met r accepted spelled is h = InChildren n accepted spelled is h
 
-index_of : (b : Array) (k rank : ℕ) (sizes : List ℕ) (level at : ℕ) (cs : List Chunk) (bs : List Block) → IsNode b k rank level (under b k rank sizes level) at cs bs → IsIndex b k rank sizes level at cs bs
-index_of b k rank sizes zero at cs bs h = h
-index_of b k rank sizes (suc level) at cs bs h = h
+  pub children_stopped : (level at : ℕ) (n : ChunkNode) (e : Bounds) (met xs : List Block) (r : Refusal) → IsAccepted e met (node_block f at) Tree → IsNodeAt b f at n → n.level ≡ level → xs ≡ node_block f at ∷ []
+      → IsUnderRefused b f at n e (met ++ xs) r → IsIndexRefused b f level at e met r
+  children_stopped level at n e met xs r accepted spelled is block h =
+      subst (λ (m : ℕ). IsIndexRefused b f m at e met r) is
+      (in_children n.level at n e met r accepted spelled refl (subst (λ (l : List Block). IsUnderRefused b f at n e (met ++ l) r) block h))
 
-pub node_held : (b : Array) (k rank : ℕ) (sizes : List ℕ) (level at : ℕ) (n : ChunkNode) (ends : Option Ends) (Keeps : List Block → Type 0) (met : List Block) → SpellsChunkNode k rank n (bytes_of b at (chunk_node_len k rank))
-    → n.level ≡ level → Taken (AreChildren (under b k rank sizes n.level) true n.keys n.children) ends Keeps (met ++ record { start = at; len = chunk_node_len k rank } ∷ [])
-    → Taken (IsIndex b k rank sizes level at) ends Keeps met
-node_held b k rank sizes level at n ends Keeps met spelled is h = record {
-  chunks = h.chunks;
-  blocks = record { start = at; len = chunk_node_len k rank } ∷ h.blocks;
-  held = subst (λ (m : ℕ). IsIndex b k rank sizes m at h.chunks (record { start = at; len = chunk_node_len k rank } ∷ h.blocks)) is
-      (index_of b k rank sizes n.level at h.chunks (record { start = at; len = chunk_node_len k rank } ∷ h.blocks)
-      (record { node = n; spelled = spelled; level_is = refl; below = h.blocks; children = h.held; blocks = refl }));
-  ordered = h.ordered;
-  ends_are = h.ends_are;
-  kept = subst Keeps (append_assoc met (record { start = at; len = chunk_node_len k rank } ∷ []) h.blocks) h.kept;
-}
+  index_of : (level at : ℕ) (cs : List Chunk) (bs : List Block) → IsNode b f.k f.rank level (child_at b f level) at cs bs → IsIndexAt b f level at cs bs
+  index_of zero at cs bs h = h
+  index_of (suc level) at cs bs h = h
 
--- ---- levels
+  node_held : (level at : ℕ) (n : ChunkNode) (cs : List Chunk) (bs : List Block) → IsNodeAt b f at n → n.level ≡ level → AreUnder b f n cs bs → IsIndexAt b f level at cs (node_block f at ∷ bs)
+  node_held level at n cs bs spelled is h =
+      subst (λ (m : ℕ). IsIndexAt b f m at cs (node_block f at ∷ bs)) is
+      (index_of n.level at cs (node_block f at ∷ bs) (record { node = n; spelled = spelled; level_is = refl; below = bs; children = h; blocks = refl }))
 
-pub one_above : (n : ℕ) → 0 < n → suc (n - 1) ≡ n
-one_above n h = omega arith
+  pub node_spans : (level at : ℕ) (n : ChunkNode) (ends : Option Ends) (xs bs : List Block) → IsNodeAt b f at n → n.level ≡ level → xs ≡ node_block f at ∷ [] → Spans (AreUnder b f n) ends bs → Spans (IsIndexAt b f level at) ends (xs ++ bs)
+  node_spans level at n ends xs bs spelled is block h = record {
+    chunks = h.chunks;
+    part = subst (λ (l : List Block). IsIndexAt b f level at h.chunks (l ++ bs)) (sym block) (node_held level at n h.chunks bs spelled is h.part);
+    spanned = h.spanned;
+  }
 
-pub at_level : (b : Array) (k rank : ℕ) (sizes : List ℕ) (low level : ℕ) (keys : List ChunkKey) (children : List ℕ) (ends : Option Ends) (Keeps : List Block → Type 0) (met : List Block) → suc low ≡ level
-    → Taken (AreChildren (under b k rank sizes (suc low)) true keys children) ends Keeps met → Taken (AreChildren (under b k rank sizes level) true keys children) ends Keeps met
-at_level b k rank sizes low level keys children ends Keeps met is h = subst (λ (m : ℕ). Taken (AreChildren (under b k rank sizes m) true keys children) ends Keeps met) is h
+  -- the index under a root of any level
+  pub whole : (at : ℕ) (n : ChunkNode) (ends : Option Ends) (xs bs : List Block) → IsNodeAt b f at n → xs ≡ node_block f at ∷ [] → Spans (AreUnder b f n) ends bs → IsWholeIndex b f at (xs ++ bs)
+  whole at n ends xs bs spelled block h =
+      let s = node_spans n.level at n ends xs bs spelled refl block h in
+      (s.chunks, (n.level, s.part, s.spanned.ordered))
 
-pub stopped_at_level : (b : Array) (e : Bounds) (k rank : ℕ) (sizes : List ℕ) (low level node : ℕ) (keys : List ChunkKey) (children : List ℕ) (met : List Block) (stop : TreeStop) → suc low ≡ level
-    → IfSome (refusal_of stop) (AreChunksRefused node (under b k rank sizes (suc low)) (refused_under b e k rank sizes (suc low) node) true keys children [] met)
-    → IfSome (refusal_of stop) (AreChunksRefused node (under b k rank sizes level) (refused_under b e k rank sizes level node) true keys children [] met)
-stopped_at_level b e k rank sizes low level node keys children met stop is h =
-    subst (λ (m : ℕ). IfSome (refusal_of stop) (AreChunksRefused node (under b k rank sizes m) (refused_under b e k rank sizes m node) true keys children [] met)) is h
+  pub root_level : (at : ℕ) (n : ChunkNode) → IsNodeAt b f at n → n.level ≡ chunk_level b f.k f.rank at
+  root_level at n h = ap (λ (x : ChunkNode). x.level) h.value
 
--- the chunks of a node of level 0
-pub leaf_found : (b : Array) (k rank : ℕ) (sizes : List ℕ) (level : ℕ) (keys : List ChunkKey) (children : List ℕ) (ends : Option Ends) (Keeps : List Block → Type 0) (met : List Block) → level ≡ 0
-    → (cs : List Chunk) × (bs : List Block) × AreChildren (IsStored rank sizes) true keys children cs bs × AreAscending cs × Keeps (met ++ bs)
-    → ((cs : List Chunk) (bs : List Block) → AreChildren (IsStored rank sizes) true keys children cs bs → HaveEnds ends cs) → Taken (AreChildren (under b k rank sizes level) true keys children) ends Keeps met
-leaf_found b k rank sizes level keys children ends Keeps met is (cs, bs, held, ordered, kept) ends_of =
-    subst (λ (m : ℕ). Taken (AreChildren (under b k rank sizes m) true keys children) ends Keeps met) (sym is)
-    (record { chunks = cs; blocks = bs; held = held; ordered = ordered; ends_are = ends_of cs bs held; kept = kept })
+  -- ---- levels
 
-pub leaf_stopped : (b : Array) (e : Bounds) (k rank : ℕ) (sizes : List ℕ) (level node : ℕ) (keys : List ChunkKey) (children : List ℕ) (met : List Block) (stop : TreeStop) → level ≡ 0
-    → IfSome (refusal_of stop) (AreChunksRefused node (IsStored rank sizes) (IsChunkRefused e rank sizes node) true keys children [] met)
-    → IfSome (refusal_of stop) (AreChunksRefused node (under b k rank sizes level) (refused_under b e k rank sizes level node) true keys children [] met)
-leaf_stopped b e k rank sizes level node keys children met stop is h =
-    subst (λ (m : ℕ). IfSome (refusal_of stop) (AreChunksRefused node (under b k rank sizes m) (refused_under b e k rank sizes m node) true keys children [] met)) (sym is) h
+  -- under a node of level 0 stand chunks
+  pub leaf_spans : (n : ChunkNode) (ends : Option Ends) (bs : List Block) → n.level ≡ 0 → (cs : List Chunk) × AreUnder b f n cs bs × AreAscending cs
+      → ((cs : List Chunk) (bs : List Block) → AreChildren (IsStored f.rank f.sizes) true n.keys n.children cs bs → HaveEnds ends cs) → Spans (AreUnder b f n) ends bs
+  leaf_spans n ends bs is (cs, held, ordered) ends_of = record {
+    chunks = cs;
+    part = held;
+    spanned = record { ordered = ordered; ends_are = ends_of cs bs (subst (λ (m : ℕ). AreChildren (child_at b f m) true n.keys n.children cs bs) is held) };
+  }
 
--- a block spells one node
-pub other_level : (k rank level : ℕ) (n m : ChunkNode) (bytes : List ℕ) → SpellsChunkNode k rank n bytes → (n.level ≡ level → ⊥) → SpellsChunkNode k rank m bytes → m.level ≡ level → ⊥
-other_level k rank level n m bytes h other g is = other (ap (λ (x : ChunkNode). x.level) (h.value ∙ sym g.value) ∙ is)
+  below : (level : ℕ) → suc level - 1 ≡ level
+  below level = omega arith
 
--- the index under a root of any level
-pub indexed : (b : Array) (k rank : ℕ) (sizes : List ℕ) (level at : ℕ) (ends : Option Ends) (Keeps : List Block → Type 0) (met : List Block) → Taken (IsIndex b k rank sizes level at) ends Keeps met
-    → (cs : List Chunk) × (bs : List Block) × IsIndexed true b k rank sizes at cs bs × Keeps (met ++ bs)
-indexed b k rank sizes level at ends Keeps met h = (h.chunks, h.blocks, (level, h.held, h.ordered), h.kept)
+  -- under a node of another level stand nodes of the level below
+  pub inner_child : (level : ℕ) (key : ChunkKey) (at : ℕ) (cs : List Chunk) (bs : List Block) → 0 < level → IsIndexAt b f (level - 1) at cs bs → child_at b f level key at cs bs
+  inner_child zero key at cs bs some h = absurd (omega arith)
+  inner_child (suc level) key at cs bs some h = subst (λ (m : ℕ). IsIndexAt b f m at cs bs) (below level) h
 
-pub root_level : (b : Array) (k rank at : ℕ) (n : ChunkNode) → SpellsChunkNode k rank n (bytes_of b at (chunk_node_len k rank)) → n.level ≡ chunk_level b k rank at
-root_level b k rank at n h = ap (λ (x : ChunkNode). x.level) h.value
+  pub inner_refused : (level node : ℕ) (key : ChunkKey) (at : ℕ) (e : Bounds) (met : List Block) (r : Refusal) → 0 < level → IsIndexRefused b f (level - 1) at e met r → refused_child b f level node e met key at r
+  inner_refused zero node key at e met r some h = absurd (omega arith)
+  inner_refused (suc level) node key at e met r some h = subst (λ (m : ℕ). IsIndexRefused b f m at e met r) (below level) h
+
+-- ---- the nodes under a node, as far as they were read
+
+pub no_node_read : (Child : Under) (Refused : Bounds → RefusedChunks) (node : ℕ) (keys : List ChunkKey) (children : List ℕ) → Spans (AreRead Child Refused node keys children 0) None []
+no_node_read Child Refused node keys children = record { chunks = []; part = none_read Child Refused node keys children; spanned = record { ordered = tt; ends_are = refl } }
+
+module _ (b : Array) (f : Form) (node : ℕ) (m : ChunkNode) (some : 0 < m.level) where
+  -- the first nodes were read
+  abbrev pub NodesRead : ℕ → Option Ends → List Block → Type 0
+  NodesRead n = Spans (AreRead (child_at b f m.level) (refused_child b f m.level node) node m.keys m.children n)
+
+  module _ (n : ℕ) (before here : Option Ends) (low high : ChunkKey) (a : ℕ) (at : IsNext m.keys m.children n low high a) (xs ys : List Block) (h : NodesRead n before xs) (x : Spans (IsIndexAt b f (m.level - 1) a) here ys) where
+    -- the next node was read, and its offsets stand in order
+    pub node_more : (after : Option Ends)
+        → ((done cs : List Chunk) → AreSpanned before done → AreSpanned here cs → IsInPlace (n == 0) low.offset high.offset (drop (n + 1) m.children) done cs)
+        → ((done cs : List Chunk) → HaveEnds before done → HaveEnds here cs → HaveEnds after (done ++ cs)) → NodesRead (n + 1) after (xs ++ ys)
+    node_more after place joined =
+        let y = place h.chunks x.chunks h.spanned x.spanned in
+        record {
+          chunks = h.chunks ++ x.chunks;
+          part = child_read (child_at b f m.level) (refused_child b f m.level node) node m.keys m.children n low high a at h.chunks xs h.part x.chunks ys (inner_child b f m.level low a x.chunks ys some x.part) y.from y.below;
+          spanned = record { ordered = y.ordered; ends_are = joined h.chunks x.chunks h.spanned.ends_are x.spanned.ends_are };
+        }
+
+    -- the offsets under the next node don't stand in order
+    pub place_stopped : (e : Bounds) (met : List Block)
+        → ((done cs : List Chunk) → AreSpanned before done → AreSpanned here cs → AreOffsetsRefused node (n == 0) low.offset high.offset (drop (n + 1) m.children) done cs (Malformed node Tree))
+        → IsUnderRefused b f node m e met (Malformed node Tree)
+    place_stopped e met place =
+        offsets_refused (child_at b f m.level) (refused_child b f m.level node) node m.keys m.children n low high a at h.chunks xs h.part x.chunks ys (inner_child b f m.level low a x.chunks ys some x.part) e met (Malformed node Tree)
+        (place h.chunks x.chunks h.spanned x.spanned)
+
+  -- all nodes were read
+  pub nodes_done : (n : ℕ) (ends : Option Ends) (bs : List Block) → n ≡ length m.children → NodesRead n ends bs → Spans (AreUnder b f m) ends bs
+  nodes_done n ends bs end h = record {
+    chunks = h.chunks;
+    part = all_read (child_at b f m.level) (refused_child b f m.level node) node m.keys m.children n h.chunks bs end h.part;
+    spanned = h.spanned;
+  }

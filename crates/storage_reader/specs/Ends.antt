@@ -1,6 +1,7 @@
 -- The first and the last offset of a list of chunks.
 -- Cited by the functions that read a chunk index.
 use Rattle.std.specs.Prelude.{◌≡◌, ℕ, Bool, List, [], ◌∷◌, ◌++◌, Option, Some, None}
+use Rattle.outside.specs.Blocks.{Block}
 use Rattle.file_model.specs.Chunks.{Chunk, IsFrom, IsBelow, AreAscending}
 use Rattle.storage_reader.specs.declared.ends.Ends.{Ends}
 
@@ -25,3 +26,14 @@ pub record IsInPlace (first : Bool) (low high : List ℕ) (later : List ℕ) (do
   pub from : IsFrom first low here
   pub below : IsBelow later high here
   pub ordered : AreAscending (done ++ here)
+
+-- the chunks ascend, from the first to the last of these ends
+pub record AreSpanned (ends : Option Ends) (cs : List Chunk) : Type 0 where
+  pub ordered : AreAscending cs
+  pub ends_are : HaveEnds ends cs
+
+-- a part with these blocks has chunks that ascend from the first to the last of these ends
+pub record Spans (Part : List Chunk → List Block → Type 0) (ends : Option Ends) (bs : List Block) : Type 0 where
+  pub chunks : List Chunk
+  pub part : Part chunks bs
+  pub spanned : AreSpanned ends chunks

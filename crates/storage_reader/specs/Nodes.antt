@@ -1,30 +1,60 @@
--- What stands under a node of a chunk index, by the node's level, and what was read of it.
+-- What stands in a chunk index of a form: its nodes, what stands under each by its level, and why one is refused.
 -- Cited by the functions that read a chunk index.
-use Rattle.std.specs.Prelude.{ℕ, zero, suc, List, ◌++◌, Option}
-use Rattle.outside.specs.Array.{Array}
+use Rattle.std.specs.Prelude.{ℕ, zero, suc, true, List, []}
+use Rattle.outside.specs.Array.{Array, bytes_of}
 use Rattle.outside.specs.Blocks.{Block, Bounds}
-use Rattle.file_model.specs.Chunks.{Chunk, Under, AreAscending, IsStored, IsIndex}
-use Rattle.file_model.specs.RefusedChunks.{RefusedChunks, IsChunkRefused, IsChunkIndexRefused}
-use Rattle.storage_reader.specs.Ends.{HaveEnds}
-use Rattle.storage_reader.specs.declared.ends.Ends.{Ends}
+use Rattle.h5_base.specs.declared.refusal.Refusal.{Refusal}
+use Rattle.node_codec.specs.ChunkNodes.{SpellsChunkNode, chunk_node_len}
+use Rattle.node_codec.specs.declared.chunk_node.ChunkNode.{ChunkNode}
+use Rattle.file_model.specs.Chunks.{Chunk, Under, AreChildren, IsIndex, IsIndexed, IsStored}
+use Rattle.file_model.specs.RefusedChunks.{AreChunksRefused, RefusedChunks, IsChunkRefused, IsChunkIndexRefused}
+use Rattle.file_model.specs.RefusedChunks.{chunk_level}
+use Rattle.storage_reader.specs.declared.form.Form.{Form}
 
--- a child of a node: under level 0 a chunk, else a node of the level below
-abbrev pub under : Array → (k rank : ℕ) → List ℕ → (level : ℕ) → Under
-under b k rank sizes zero = IsStored rank sizes
-under b k rank sizes (suc level) = λ key. IsIndex b k rank sizes level
+-- ---- a node
+
+abbrev pub node_block : Form → ℕ → Block
+node_block f at = record { start = at; len = chunk_node_len f.k f.rank }
+
+-- the bytes at an address spell this node
+abbrev pub IsNodeAt : Array → Form → ℕ → ChunkNode → Type 0
+IsNodeAt b f at n = SpellsChunkNode f.k f.rank n (bytes_of b at (chunk_node_len f.k f.rank))
+
+-- ---- an index
+
+-- the chunks and the blocks of an index of this level
+abbrev pub IsIndexAt : Array → Form → (level at : ℕ) → List Chunk → List Block → Type 0
+IsIndexAt b f level at = IsIndex b f.k f.rank f.sizes level at
+
+-- why an index of this level is refused
+abbrev pub IsIndexRefused : Array → Form → (level at : ℕ) → Bounds → List Block → Refusal → Type 0
+IsIndexRefused b f level at e met = IsChunkIndexRefused b e f.k f.rank f.sizes level met at
+
+-- the chunks and the blocks of an index of any level
+abbrev pub IsWholeIndex : Array → Form → (at : ℕ) → List Block → Type 0
+IsWholeIndex b f at bs = (cs : List Chunk) × IsIndexed true b f.k f.rank f.sizes at cs bs
+
+-- why an index of the level that its root tells is refused
+abbrev pub IsWholeRefused : Array → Form → (at : ℕ) → Bounds → List Block → Refusal → Type 0
+IsWholeRefused b f at = IsIndexRefused b f (chunk_level b f.k f.rank at) at
+
+-- ---- under a node
+
+-- a child of a node of this level: under level 0 a chunk, else a node of the level below
+abbrev pub child_at : Array → Form → (level : ℕ) → Under
+child_at b f zero = IsStored f.rank f.sizes
+child_at b f (suc level) = λ key. IsIndex b f.k f.rank f.sizes level
 
 -- why a child of the node at an address is refused
-abbrev pub refused_under : Array → Bounds → (k rank : ℕ) → List ℕ → (level node : ℕ) → RefusedChunks
-refused_under b e k rank sizes zero node = IsChunkRefused e rank sizes node
-refused_under b e k rank sizes (suc level) node = λ met key. IsChunkIndexRefused b e k rank sizes level met
+abbrev pub refused_child : Array → Form → (level node : ℕ) → Bounds → RefusedChunks
+refused_child b f zero node e = IsChunkRefused e f.rank f.sizes node
+refused_child b f (suc level) node e = λ met key. IsChunkIndexRefused b e f.k f.rank f.sizes level met
 
--- Chunks and blocks were read: the chunks ascend from the first to the last of these ends, and the catalogue has the
--- blocks beside those that it had.
-pub record Taken (Held : List Chunk → List Block → Type 0) (ends : Option Ends) (Keeps : List Block
-    → Type 0) (met : List Block) : Type 0 where
-  pub chunks : List Chunk
-  pub blocks : List Block
-  pub held : Held chunks blocks
-  pub ordered : AreAscending chunks
-  pub ends_are : HaveEnds ends chunks
-  pub kept : Keeps (met ++ blocks)
+-- the chunks and the blocks under a node
+abbrev pub AreUnder : Array → Form → ChunkNode → List Chunk → List Block → Type 0
+AreUnder b f n = AreChildren (child_at b f n.level) true n.keys n.children
+
+-- why what stands under the node at an address is refused
+abbrev pub IsUnderRefused : Array → Form → (at : ℕ) → ChunkNode → Bounds → List Block → Refusal → Type 0
+IsUnderRefused b f at n e met = AreChunksRefused at (child_at b f n.level) (refused_child b f n.level at e) true n.keys
+    n.children [] met

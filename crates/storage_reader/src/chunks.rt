@@ -1,32 +1,18 @@
-ghost use Rattle.std.specs.Prelude.{◌≡◌, ◌+◌, ◌++◌, ◌∷◌, [], ℕ, List, Option, IfErr, IfSome, IsErrOf, OnOk, IsTrue};
-ghost use Rattle.std.specs.Prelude.{length, false, true};
+ghost use Rattle.std.specs.Prelude.{◌≡◌, ◌+◌, ◌∷◌, [], List, IfErr, IsErrOf, OnOk, IsTrue, length, false};
 ghost use Rattle.outside.specs.Blocks.{Block};
-ghost use Rattle.outside.specs.Space.{bounds_of};
-ghost use Rattle.dtype.specs.Products.{product};
-ghost use Rattle.block_space.specs.Blocks.{Keeps, space_of};
-ghost use Rattle.h5_base.specs.Refusals.{refusal_of};
+ghost use Rattle.block_space.specs.Blocks.{Refuses, Takes, array_of, space_of};
 ghost use Rattle.node_codec.specs.ChunkNodes.{FitsChunkNode};
-ghost use Rattle.file_model.specs.Chunks.{Chunk, AreAscending, AreChildren, IsStored, comes_before};
-ghost use Rattle.file_model.specs.RefusedChunks.{AreChunksRefused, IsChunkRefused};
+ghost use Rattle.file_model.specs.Chunks.{AreAscending, Chunk, IsStored, comes_before};
+ghost use Rattle.file_model.specs.RefusedChunks.{IsChunkRefused};
 ghost use Rattle.storage_reader.specs.Forms.{IsForm};
+ghost use Rattle.storage_reader.specs.Nodes.{AreUnder, IsUnderRefused};
 
 use crate::ends::comes_before;
 use crate::form::{Form, are_multiples};
-use block_reader::{TreeStop, adopt};
 use block_space::Blocks;
-use h5_base::BlockKind;
+use h5_base::{BlockKind, Stop};
 use node_codec::{ChunkKey, ChunkNode};
 use outside::Space;
-
-// A node of a chunk index doesn't spell one, or doesn't fit the nodes and chunks beside it.
-pub(crate) fn malformed(node: u64) -> TreeStop
-    ensures { result ≡ TreeStop.Malformed node BlockKind.Tree }
-{
-    TreeStop::Malformed {
-        at: node,
-        kind: BlockKind::Tree,
-    }
-}
 
 // Takes a chunk into the catalogue, and looks whether its key tells of this form.
 fn adopt_chunk<V: Space>(
@@ -35,28 +21,25 @@ fn adopt_chunk<V: Space>(
     key: &ChunkKey,
     at: u64,
     form: &Form,
-) -> Result<(), TreeStop>
+) -> Result<(), Stop>
+    requires stands { V.Stands (space_of blocks.old) }
     requires form { IsForm form.now }
     requires rank { length key.now.offset ≡ form.now.rank }
-    ensures found { OnOk result (IsStored form.now.rank form.now.sizes key.now at
-        (record { offset = key.now.offset; at = at } ∷ []) (record { start = at; len = product form.now.sizes } ∷ [])) }
-    ensures kept { OnOk result ((met : List Block) → Keeps V.view blocks.old met
-        → Keeps V.view blocks.new (met ++ record { start = at; len = product form.now.sizes } ∷ [])) }
-    ensures refused { IfErr result (λ stop. (met : List Block) (own : Option (List ℕ)) → Keeps V.view blocks.old met
-        → IfSome (refusal_of stop) (IsChunkRefused
-        (bounds_of (V.view (space_of blocks.old)) own) form.now.rank form.now.sizes node met key.now at)) }
-    ensures no_fault { IsErrOf result TreeStop.Failed → ⊥ }
+    ensures found { OnOk result (Takes V.view blocks.old blocks.new (IsStored form.now.rank form.now.sizes key.now at
+        (record { offset = key.now.offset; at = at } ∷ []))) }
+    ensures refused { IfErr result (Refuses V.view blocks.old
+        (λ e met r. IsChunkRefused e form.now.rank form.now.sizes node met key.now at r)) }
+    ensures no_fault { ¬ IsErrOf result Stop.Failed }
     ensures space { space_of blocks.new ≡ space_of blocks.old }
 {
-    adopt(blocks, at, form.bytes, BlockKind::Raw)?;
+    blocks.adopt(at, form.bytes, BlockKind::Raw)?;
     if u64::from(key.bytes) != form.bytes {
-        return Err(malformed(node));
+        return Err(Stop::malformed(node, BlockKind::Tree));
     }
-    if are_multiples(form.sizes.as_slice(), key.offset.as_slice()) {
-        Ok(())
-    } else {
-        Err(malformed(node))
+    if !are_multiples(form.sizes.as_slice(), key.offset.as_slice()) {
+        return Err(Stop::malformed(node, BlockKind::Tree));
     }
+    Ok(())
 }
 
 // Whether the key behind a chunk is above it, or is free, as it is behind the last.
@@ -73,18 +56,16 @@ pub(crate) fn adopt_chunks<V: Space>(
     at: u64,
     node: &ChunkNode,
     form: &Form,
-) -> Result<(), TreeStop>
+) -> Result<(), Stop>
+    requires stands { V.Stands (space_of blocks.old) }
     requires form { IsForm form.now }
     requires node { FitsChunkNode form.now.k form.now.rank node.now }
-    ensures found { OnOk result ((met : List Block) → Keeps V.view blocks.old met → (cs : List Chunk)
-        × (bs : List Block)
-        × AreChildren (IsStored form.now.rank form.now.sizes) true node.now.keys node.now.children cs bs
-        × AreAscending cs × Keeps V.view blocks.new (met ++ bs)) }
-    ensures refused { IfErr result (λ stop. (met : List Block) (own : Option (List ℕ)) → Keeps V.view blocks.old met
-        → IfSome (refusal_of stop) (AreChunksRefused at (IsStored form.now.rank form.now.sizes)
-        (IsChunkRefused (bounds_of (V.view (space_of blocks.old)) own) form.now.rank form.now.sizes at)
-        true node.now.keys node.now.children [] met)) }
-    ensures no_fault { IsErrOf result TreeStop.Failed → ⊥ }
+    requires level { node.now.level ≡ 0 }
+    ensures found { OnOk result (Takes V.view blocks.old blocks.new (λ bs. (cs : List Chunk)
+        × AreUnder (array_of V.view blocks.old) form.now node.now cs bs × AreAscending cs)) }
+    ensures refused { IfErr result (Refuses V.view blocks.old
+        (IsUnderRefused (array_of V.view blocks.old) form.now at node.now)) }
+    ensures no_fault { ¬ IsErrOf result Stop.Failed }
     ensures space { space_of blocks.new ≡ space_of blocks.old }
 {
     let keys = node.keys.as_slice();
@@ -94,7 +75,7 @@ pub(crate) fn adopt_chunks<V: Space>(
         let next = &keys[i + 1];
         adopt_chunk(blocks, at, key, *child, form)?;
         if !is_above(i + 1 == children.len(), next, key) {
-            return Err(malformed(at));
+            return Err(Stop::malformed(at, BlockKind::Tree));
         }
     }
     Ok(())

@@ -4,7 +4,7 @@ ghost use Rattle.h5_base.specs.declared.kinds.BlockKind.TheVariants.{Tree};
 ghost use Rattle.file_model.specs.Chunks.{Chunk, AreAscending, AreChildren, IsFrom, IsBelow, IsStored, comes_before};
 ghost use Rattle.h5_base.specs.declared.refusal.Refusal.TheVariants.{Malformed};
 ghost use Rattle.file_model.specs.RefusedChunks.{AreOffsetsRefused};
-ghost use Rattle.storage_reader.specs.Ends.{AreEnds, HaveEnds, IsInPlace};
+ghost use Rattle.storage_reader.specs.Ends.{AreEnds, AreSpanned, HaveEnds, IsInPlace};
 
 use dtype::Dims;
 use h5_base::NoMemory;
@@ -76,9 +76,8 @@ fn is_below(i: usize, children: &[u64], high: &Dims, ends: &Ends) -> bool
 
 // Whether the offsets under a child follow those before them.
 fn follows(before: &Option<Ends>, ends: &Ends) -> bool
-    ensures { (done cs : List Chunk) → HaveEnds before.now done → AreEnds ends.now.first ends.now.last cs
-        → AreAscending done → AreAscending cs
-        → (IsTrue result ↔ AreAscending (done ++ cs)) }
+    ensures { (done cs : List Chunk) → AreSpanned before.now done → AreEnds ends.now.first ends.now.last cs
+        → AreAscending cs → (IsTrue result ↔ AreAscending (done ++ cs)) }
 {
     match before {
         None => true,
@@ -96,13 +95,11 @@ pub(crate) fn is_in_place(
     here: &Option<Ends>,
 ) -> bool
     requires { i < length children.now }
-    ensures yes { IsTrue result → (done cs : List Chunk) → HaveEnds before.now done → HaveEnds here.now cs
-        → AreAscending done → AreAscending cs
+    ensures yes { IsTrue result → (done cs : List Chunk) → AreSpanned before.now done → AreSpanned here.now cs
         → IsInPlace (i == 0) low.now.offset high.now.offset (drop (i + 1) children.now) done cs }
-    ensures no { result ≡ false → (done cs : List Chunk) → HaveEnds before.now done → HaveEnds here.now cs
-        → AreAscending done → AreAscending cs
-        → (node : ℕ) → AreOffsetsRefused node (i == 0) low.now.offset high.now.offset
-        (drop (i + 1) children.now) done cs (Malformed node Tree) }
+    ensures no { result ≡ false → (done cs : List Chunk) → AreSpanned before.now done → AreSpanned here.now cs
+        → (node : ℕ) → AreOffsetsRefused node (i == 0) low.now.offset high.now.offset (drop (i + 1) children.now) done cs
+        (Malformed node Tree) }
 {
     let Some(ends) = here else {
         return true;

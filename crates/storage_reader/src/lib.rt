@@ -8,4 +8,4 @@ mod form;
 mod nodes;
 mod storage;
 
-pub use storage::adopt_storage;
+pub use storage::{Elements, adopt_storage};

@@ -1,24 +1,18 @@
-ghost use Rattle.std.specs.Prelude.{◌≡◌, ◌+◌, ◌<◌, ◌≤◌, ◌++◌, ◌∷◌, [], ℕ, List, Option, None, IsTrue, IfOk, IfErr};
-ghost use Rattle.std.specs.Prelude.{IfSome, OnOk, IsErrOf, length, true, suc};
-ghost use Rattle.outside.specs.Array.{bytes_of};
+ghost use Rattle.std.specs.Prelude.{◌≡◌, ◌<◌, ◌∷◌, [], ℕ, List, IsTrue, IfOk, IfErr, OnOk, IsErrOf};
 ghost use Rattle.outside.specs.Blocks.{Block};
-ghost use Rattle.outside.specs.Causes.{Rose};
-ghost use Rattle.outside.specs.Space.{bounds_of};
-ghost use Rattle.block_space.specs.Blocks.{Keeps, space_of};
-ghost use Rattle.h5_base.specs.Refusals.{refusal_of};
-ghost use Rattle.node_codec.specs.ChunkNodes.{FitsChunkNode, SpellsChunkNode, chunk_node_len};
-ghost use Rattle.file_model.specs.Chunks.{AreChildren, Chunk, IsIndex, IsIndexed};
-ghost use Rattle.file_model.specs.RefusedChunks.{AreChunksRefused, IsChunkIndexRefused, IsChunkNodeRefused};
-ghost use Rattle.file_model.specs.RefusedChunks.{chunk_level};
+ghost use Rattle.outside.specs.Causes.{OneRose};
+ghost use Rattle.block_space.specs.Blocks.{Keeps, Refuses, Takes, array_of, space_of};
+ghost use Rattle.node_codec.specs.ChunkNodes.{FitsChunkNode};
+ghost use Rattle.storage_reader.specs.Ends.{Spans};
 ghost use Rattle.storage_reader.specs.Forms.{IsForm};
-ghost use Rattle.storage_reader.specs.Nodes.{Taken, under, refused_under};
+ghost use Rattle.storage_reader.specs.Nodes.{AreUnder, IsIndexAt, IsIndexRefused, IsNodeAt, IsUnderRefused};
+ghost use Rattle.storage_reader.specs.Nodes.{IsWholeIndex, IsWholeRefused, node_block};
 
-use crate::chunks::{adopt_chunks, malformed};
+use crate::chunks::adopt_chunks;
 use crate::ends::{Ends, ends_of, is_in_place, join};
 use crate::form::Form;
-use block_reader::{TreeStop, take};
 use block_space::Blocks;
-use h5_base::{BlockKind, CodecStop};
+use h5_base::{BlockKind, CodecStop, Stop};
 use node_codec::{ChunkNode, chunk_node_size, read_chunk_node};
 use outside::Space;
 use std::alloc::Global;
@@ -29,36 +23,24 @@ fn take_node<V: Space>(
     blocks: &mut Blocks<V>,
     at: u64,
     form: &Form,
-) -> Result<ChunkNode, TreeStop>
+) -> Result<ChunkNode, Stop>
     requires stands { V.Stands (space_of blocks.old) }
-    requires listed { (met : List Block) × Keeps V.view blocks.old met }
-    ensures found { IsTrue V.tells → IfOk result
-        (λ n. SpellsChunkNode form.now.k form.now.rank n
-        (bytes_of (V.view (space_of blocks.old)).array at (chunk_node_len form.now.k form.now.rank))) }
-    ensures fits { IfOk result (λ n. FitsChunkNode form.now.k form.now.rank n) }
-    ensures kept { OnOk result ((met : List Block) → Keeps V.view blocks.old met
-        → Keeps V.view blocks.new (met ++ record { start = at; len = chunk_node_len form.now.k form.now.rank } ∷ [])) }
-    ensures refused { IsTrue V.tells → IfErr result (λ stop. (met : List Block) (own : Option (List ℕ)) (level : ℕ)
-        → Keeps V.view blocks.old met
-        → IfSome (refusal_of stop) (IsChunkIndexRefused (V.view (space_of blocks.old)).array
-        (bounds_of (V.view (space_of blocks.old)) own) form.now.k form.now.rank form.now.sizes level met at)) }
+    ensures found { IsTrue V.tells → IfOk result (IsNodeAt (array_of V.view blocks.old) form.now at) }
+    ensures fits { IfOk result (FitsChunkNode form.now.k form.now.rank) }
+    ensures kept { OnOk result
+        (Takes V.view blocks.old blocks.new (λ bs. bs ≡ node_block form.now at ∷ [])) }
+    ensures refused { IsTrue V.tells → IfErr result (λ stop. (level : ℕ)
+        → Refuses V.view blocks.old (IsIndexRefused (array_of V.view blocks.old) form.now level at) stop) }
     ensures alike { V.Alike (space_of blocks.old) (space_of blocks.new) }
-    ensures stands { (IsErrOf result TreeStop.Failed → ⊥) → V.Stands (space_of blocks.new) }
-    ensures later { V.faults (space_of blocks.old) ≤ V.faults (space_of blocks.new) }
-    ensures cause { IsErrOf result TreeStop.Failed
-        → Rose (V.faults (space_of blocks.old)) (V.faults (space_of blocks.new)) }
+    ensures failed { IsErrOf result Stop.Failed
+        → OneRose (V.faults (space_of blocks.old)) (V.faults (space_of blocks.new)) }
 {
-    let bytes = take(
-        alloc,
-        blocks,
-        at,
-        chunk_node_size(form.k, form.rank),
-        BlockKind::Tree,
-    )?;
+    let size = chunk_node_size(form.k, form.rank);
+    let bytes = blocks.adopt_bytes(alloc, at, size, BlockKind::Tree)?;
     match read_chunk_node(alloc, bytes.as_slice(), form.k, form.rank) {
         Ok(node) => Ok(node),
-        Err(CodecStop::NotThis) => Err(malformed(at)),
-        Err(CodecStop::NoMemory) => Err(TreeStop::NoMemory),
+        Err(CodecStop::NotThis) => Err(Stop::malformed(at, BlockKind::Tree)),
+        Err(CodecStop::NoMemory) => Err(Stop::NoMemory),
     }
 }
 
@@ -71,30 +53,22 @@ fn adopt_children<V: Space>(
     at: u64,
     node: &ChunkNode,
     form: &Form,
-) -> Result<Option<Ends>, TreeStop>
+) -> Result<Option<Ends>, Stop>
     requires stands { V.Stands (space_of blocks.old) }
     requires listed { (met : List Block) × Keeps V.view blocks.old met }
     requires form { IsForm form.now }
     requires node { FitsChunkNode form.now.k form.now.rank node.now }
-    ensures found { IsTrue V.tells → IfOk result (λ ends. (met : List Block) → Keeps V.view blocks.old met
-        → Taken (AreChildren (under (V.view (space_of blocks.old)).array form.now.k form.now.rank form.now.sizes
-        node.now.level) true node.now.keys node.now.children) ends (Keeps V.view blocks.new) met) }
-    ensures refused { IsTrue V.tells → IfErr result (λ stop. (met : List Block) (own : Option (List ℕ))
-        → Keeps V.view blocks.old met
-        → IfSome (refusal_of stop) (AreChunksRefused at
-        (under (V.view (space_of blocks.old)).array form.now.k form.now.rank form.now.sizes node.now.level)
-        (refused_under (V.view (space_of blocks.old)).array
-        (bounds_of (V.view (space_of blocks.old)) own) form.now.k form.now.rank form.now.sizes node.now.level at) true
-        node.now.keys node.now.children [] met)) }
+    ensures found { IsTrue V.tells → IfOk result (λ ends. Takes V.view blocks.old blocks.new
+        (Spans (AreUnder (array_of V.view blocks.old) form.now node.now) ends)) }
+    ensures refused { IsTrue V.tells → IfErr result (Refuses V.view blocks.old
+        (IsUnderRefused (array_of V.view blocks.old) form.now at node.now)) }
     ensures alike { V.Alike (space_of blocks.old) (space_of blocks.new) }
-    ensures stands { (IsErrOf result TreeStop.Failed → ⊥) → V.Stands (space_of blocks.new) }
     ensures listed { OnOk result ((met : List Block) × Keeps V.view blocks.new met) }
-    ensures later { V.faults (space_of blocks.old) ≤ V.faults (space_of blocks.new) }
-    ensures cause { IsErrOf result TreeStop.Failed
-        → Rose (V.faults (space_of blocks.old)) (V.faults (space_of blocks.new)) }
+    ensures failed { IsErrOf result Stop.Failed
+        → OneRose (V.faults (space_of blocks.old)) (V.faults (space_of blocks.new)) }
 {
     if node.level > 0 {
-        return adopt_nodes(alloc, blocks, at, node, node.level - 1, form);
+        return adopt_nodes(alloc, blocks, at, node, form);
     }
     adopt_chunks(blocks, at, node, form)?;
     Ok(ends_of(alloc, node)?)
@@ -107,30 +81,23 @@ fn adopt_nodes<V: Space>(
     blocks: &mut Blocks<V>,
     at: u64,
     node: &ChunkNode,
-    level: u8,
     form: &Form,
-) -> Result<Option<Ends>, TreeStop>
+) -> Result<Option<Ends>, Stop>
     requires stands { V.Stands (space_of blocks.old) }
     requires listed { (met : List Block) × Keeps V.view blocks.old met }
     requires form { IsForm form.now }
     requires node { FitsChunkNode form.now.k form.now.rank node.now }
-    ensures found { IsTrue V.tells → IfOk result (λ ends. (met : List Block) → Keeps V.view blocks.old met
-        → Taken (AreChildren (under (V.view (space_of blocks.old)).array form.now.k form.now.rank form.now.sizes
-        (suc level)) true node.now.keys node.now.children) ends (Keeps V.view blocks.new) met) }
-    ensures refused { IsTrue V.tells → IfErr result (λ stop. (met : List Block) (own : Option (List ℕ))
-        → Keeps V.view blocks.old met
-        → IfSome (refusal_of stop) (AreChunksRefused at
-        (under (V.view (space_of blocks.old)).array form.now.k form.now.rank form.now.sizes (suc level))
-        (refused_under (V.view (space_of blocks.old)).array
-        (bounds_of (V.view (space_of blocks.old)) own) form.now.k form.now.rank form.now.sizes
-        (suc level) at) true node.now.keys node.now.children [] met)) }
+    requires level { 0 < node.now.level }
+    ensures found { IsTrue V.tells → IfOk result (λ ends. Takes V.view blocks.old blocks.new
+        (Spans (AreUnder (array_of V.view blocks.old) form.now node.now) ends)) }
+    ensures refused { IsTrue V.tells → IfErr result (Refuses V.view blocks.old
+        (IsUnderRefused (array_of V.view blocks.old) form.now at node.now)) }
     ensures alike { V.Alike (space_of blocks.old) (space_of blocks.new) }
-    ensures stands { (IsErrOf result TreeStop.Failed → ⊥) → V.Stands (space_of blocks.new) }
     ensures listed { OnOk result ((met : List Block) × Keeps V.view blocks.new met) }
-    ensures later { V.faults (space_of blocks.old) ≤ V.faults (space_of blocks.new) }
-    ensures cause { IsErrOf result TreeStop.Failed
-        → Rose (V.faults (space_of blocks.old)) (V.faults (space_of blocks.new)) }
+    ensures failed { IsErrOf result Stop.Failed
+        → OneRose (V.faults (space_of blocks.old)) (V.faults (space_of blocks.new)) }
 {
+    let level = node.level - 1;
     let keys = node.keys.as_slice();
     let children = node.children.as_slice();
     let mut before = None;
@@ -139,7 +106,7 @@ fn adopt_nodes<V: Space>(
         let high = &keys[i + 1];
         let here = adopt_node(alloc, blocks, *child, level, form)?;
         if !is_in_place(i, children, low, high, &before, &here) {
-            return Err(malformed(at));
+            return Err(Stop::malformed(at, BlockKind::Tree));
         }
         before = join(before, here);
     }
@@ -154,27 +121,22 @@ fn adopt_node<V: Space>(
     at: u64,
     level: u8,
     form: &Form,
-) -> Result<Option<Ends>, TreeStop>
+) -> Result<Option<Ends>, Stop>
     requires stands { V.Stands (space_of blocks.old) }
     requires listed { (met : List Block) × Keeps V.view blocks.old met }
     requires form { IsForm form.now }
-    ensures found { IsTrue V.tells → IfOk result (λ ends. (met : List Block) → Keeps V.view blocks.old met
-        → Taken (IsIndex (V.view (space_of blocks.old)).array form.now.k form.now.rank form.now.sizes level at) ends
-        (Keeps V.view blocks.new) met) }
-    ensures refused { IsTrue V.tells → IfErr result (λ stop. (met : List Block) (own : Option (List ℕ))
-        → Keeps V.view blocks.old met
-        → IfSome (refusal_of stop) (IsChunkIndexRefused (V.view (space_of blocks.old)).array
-        (bounds_of (V.view (space_of blocks.old)) own) form.now.k form.now.rank form.now.sizes level met at)) }
+    ensures found { IsTrue V.tells → IfOk result (λ ends. Takes V.view blocks.old blocks.new
+        (Spans (IsIndexAt (array_of V.view blocks.old) form.now level at) ends)) }
+    ensures refused { IsTrue V.tells → IfErr result (Refuses V.view blocks.old
+        (IsIndexRefused (array_of V.view blocks.old) form.now level at)) }
     ensures alike { V.Alike (space_of blocks.old) (space_of blocks.new) }
-    ensures stands { (IsErrOf result TreeStop.Failed → ⊥) → V.Stands (space_of blocks.new) }
     ensures listed { OnOk result ((met : List Block) × Keeps V.view blocks.new met) }
-    ensures later { V.faults (space_of blocks.old) ≤ V.faults (space_of blocks.new) }
-    ensures cause { IsErrOf result TreeStop.Failed
-        → Rose (V.faults (space_of blocks.old)) (V.faults (space_of blocks.new)) }
+    ensures failed { IsErrOf result Stop.Failed
+        → OneRose (V.faults (space_of blocks.old)) (V.faults (space_of blocks.new)) }
 {
     let node = take_node(alloc, blocks, at, form)?;
     if node.level != level {
-        return Err(malformed(at));
+        return Err(Stop::malformed(at, BlockKind::Tree));
     }
     adopt_children(alloc, blocks, at, &node, form)
 }
@@ -185,25 +147,18 @@ pub(crate) fn adopt_index<V: Space>(
     blocks: &mut Blocks<V>,
     at: u64,
     form: &Form,
-) -> Result<(), TreeStop>
+) -> Result<(), Stop>
     requires stands { V.Stands (space_of blocks.old) }
     requires listed { (met : List Block) × Keeps V.view blocks.old met }
     requires form { IsForm form.now }
-    ensures found { IsTrue V.tells → OnOk result ((met : List Block) → Keeps V.view blocks.old met → (cs : List Chunk)
-        × (bs : List Block)
-        × IsIndexed true (V.view (space_of blocks.old)).array form.now.k form.now.rank form.now.sizes at cs bs
-        × Keeps V.view blocks.new (met ++ bs)) }
-    ensures refused { IsTrue V.tells → IfErr result (λ stop. (met : List Block) (own : Option (List ℕ))
-        → Keeps V.view blocks.old met
-        → IfSome (refusal_of stop) (IsChunkIndexRefused (V.view (space_of blocks.old)).array
-        (bounds_of (V.view (space_of blocks.old)) own) form.now.k form.now.rank form.now.sizes
-        (chunk_level (V.view (space_of blocks.old)).array form.now.k form.now.rank at) met at)) }
+    ensures found { IsTrue V.tells → OnOk result (Takes V.view blocks.old blocks.new
+        (IsWholeIndex (array_of V.view blocks.old) form.now at)) }
+    ensures refused { IsTrue V.tells → IfErr result (Refuses V.view blocks.old
+        (IsWholeRefused (array_of V.view blocks.old) form.now at)) }
     ensures alike { V.Alike (space_of blocks.old) (space_of blocks.new) }
-    ensures stands { (IsErrOf result TreeStop.Failed → ⊥) → V.Stands (space_of blocks.new) }
     ensures listed { OnOk result ((met : List Block) × Keeps V.view blocks.new met) }
-    ensures later { V.faults (space_of blocks.old) ≤ V.faults (space_of blocks.new) }
-    ensures cause { IsErrOf result TreeStop.Failed
-        → Rose (V.faults (space_of blocks.old)) (V.faults (space_of blocks.new)) }
+    ensures failed { IsErrOf result Stop.Failed
+        → OneRose (V.faults (space_of blocks.old)) (V.faults (space_of blocks.new)) }
 {
     let node = take_node(alloc, blocks, at, form)?;
     adopt_children(alloc, blocks, at, &node, form)?;

@@ -1,30 +1,30 @@
-use Rattle.std.proofs.Common.{subst, sym, ap, ◌∙◌}
-use Rattle.node_codec.specs.ChunkNodes.{SpellsChunkNode}
+use Rattle.std.proofs.Common.{◌∙◌, ◌++◌, ◌∷◌, [], refl, sym, subst, ap}
 use Rattle.outside.specs.Array.{bytes_of}
-use Rattle.block_space.specs.Blocks.{space_of}
-use Rattle.storage_reader.proofs.NodeLaws.{block_stopped, no_node}
-use Rattle.storage_reader.proofs.StopLaws.{handed}
+use Rattle.outside.specs.Blocks.{IsBlockRefused}
+use Rattle.h5_base.specs.declared.kinds.BlockKind.TheVariants.{Tree}
+use Rattle.node_codec.specs.ChunkNodes.{SpellsChunkNode}
+use Rattle.block_space.specs.Blocks.{Keeps, array_of}
+use Rattle.storage_reader.specs.Nodes.{IsIndexRefused, node_block}
+use Rattle.storage_reader.proofs.NodeLaws.{no_node, node_block_refused}
+use Rattle.storage_reader.proofs.Parts.{accepted, handed, refuses_as}
 use Rattle.storage_reader.proofs.nodes.take_node.Goals as goal
 
 pub returns-in_err-bytes-clause-refused : goal.returns-in_err-bytes-clause-refused
 returns-in_err-bytes-clause-refused g c = λ tells.
-    handed c.from_residual.result c.in_err-bytes.field-0.0 _ c.from_residual.ensures.1
-    (λ met own level keeps. block_stopped _ _ c.args.form.now.k c.args.form.now.rank c.args.form.now.sizes level met c.args.at c.in_err-bytes.field-0.0
-    (rw (← c.chunk_node_size.ensures) (c.in_err-bytes.ensures.refused met own keeps)))
+    let b = array_of g.V.Space.view c.args.blocks.now in
+    let f = c.args.form.now in
+    let stop = c.in_err-bytes.field-0.0 in
+    handed c.from_residual.result stop _ c.from_residual.ensures.1
+    (λ level. refuses_as g.V.Space.view c.args.blocks.now (λ e met. IsBlockRefused e met (node_block f c.args.at) Tree) (IsIndexRefused b f level c.args.at) stop
+    (rw (← c.chunk_node_size-size.ensures) c.in_err-bytes.ensures.refused) (node_block_refused b f level c.args.at))
 
 pub returns-in-Err-NotThis-clause-refused : goal.returns-in-Err-NotThis-clause-refused
-returns-in-Err-NotThis-clause-refused g c = λ tells met own level keeps. rw c.malformed.ensures
-    (no_node _ _ c.args.form.now.k c.args.form.now.rank c.args.form.now.sizes level met c.args.at
-    (λ n spelled is.
-    let array = (g.V.Space.view (space_of c.args.blocks.now)).array in
-    let read = c.as_slice.ensures.value ∙ c.in_ok-bytes.ensures.bytes tells ∙ ap (bytes_of array c.args.at) c.chunk_node_size.ensures in
-    c.read_chunk_node.ensures.only (cc) n (subst (SpellsChunkNode c.args.form.now.k c.args.form.now.rank n) (sym read) spelled)))
-
-pub returns-in-Ok-clause-found : goal.returns-in-Ok-clause-found
-returns-in-Ok-clause-found g c = λ tells.
-    let array = (g.V.Space.view (space_of c.args.blocks.now)).array in
-    let read = c.as_slice.ensures.value ∙ c.in_ok-bytes.ensures.bytes tells ∙ ap (bytes_of array c.args.at) c.chunk_node_size.ensures in
-    subst (SpellsChunkNode c.args.form.now.k c.args.form.now.rank c.in-Ok.node) read c.in-Ok.ensures.found
-
-pub returns-in-Ok-clause-kept : goal.returns-in-Ok-clause-kept
-returns-in-Ok-clause-kept g c = λ met keeps. rw c.chunk_node_size.ensures at (c.in_ok-bytes.ensures.found met keeps)
+returns-in-Err-NotThis-clause-refused g c = λ tells level met own keeps.
+    let b = array_of g.V.Space.view c.args.blocks.now in
+    let f = c.args.form.now in
+    let block = node_block f c.args.at in
+    let read = c.as_slice.ensures.value ∙ c.in_ok-bytes.ensures.bytes tells ∙ ap (bytes_of b c.args.at) c.chunk_node_size-size.ensures in
+    let kept : Keeps g.V.Space.view c.adopt_bytes.new.self (met ++ block ∷ []) = rw (← c.chunk_node_size-size.ensures) (c.in_ok-bytes.ensures.found met keeps) in
+    rw c.malformed.ensures
+    (no_node b f level c.args.at _ met (accepted g.V.Space.view c.args.blocks.now c.adopt_bytes.new.self met (block ∷ []) block Tree own (g.met.V.Space.alike _ _ c.adopt_bytes.ensures.alike) refl kept)
+    (λ n spelled is. c.read_chunk_node.ensures.only (cc) n (subst (SpellsChunkNode f.k f.rank n) (sym read) spelled)))

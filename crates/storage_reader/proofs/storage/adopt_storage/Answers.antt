@@ -1,64 +1,49 @@
-use Rattle.std.proofs.Common.{◌≡◌, length, sym, subst}
+use Rattle.std.proofs.Common.{◌≡◌, ◌*◌, List, length}
 use Rattle.std.proofs.lemmas.Result.{on_ok_weaker}
-use Rattle.outside.specs.Space.{bounds_of}
+use Rattle.h5_base.specs.declared.kinds.BlockKind.TheVariants.{Raw}
+use Rattle.outside.specs.Blocks.{IsPlacedRefused}
+use Rattle.dtype.specs.Products.{product}
 use Rattle.dtype.specs.Types.{size_of}
-use Rattle.block_space.specs.Blocks.{Keeps, space_of}
-use Rattle.block_reader.proofs.Stopped.{if_err}
-use Rattle.storage_reader.proofs.StorageLaws.{not_read, index_found, index_stopped, block_found, raw_stopped, rank_of}
+use Rattle.block_space.specs.Blocks.{array_of}
+use Rattle.block_space.proofs.Stopped.{if_err}
+use Rattle.file_model.specs.Chunks.{Chunk, IsStoredBy}
+use Rattle.file_model.specs.RefusedChunks.{IsStorageRefused}
+use Rattle.storage_reader.specs.Nodes.{IsWholeIndex, IsWholeRefused}
+use Rattle.storage_reader.proofs.Parts.{refuses_as, takes_as}
+use Rattle.storage_reader.proofs.StorageLaws.{index_found, index_stopped, raw_stopped, rank_of}
 use Rattle.storage_reader.proofs.storage.adopt_storage.Goals as goal
-
-pub returns-then-not-is_read-clause-found : goal.returns-then-not-is_read-clause-found
-returns-then-not-is_read-clause-found g c = λ tells i met shape elem layout filtered keeps.
-    not_read (g.V.Space.view (space_of c.args.blocks.now)).array c.args.k i c.in-Chunked.tree_at c.in-Chunked.sizes c.args.layout.now c.args.filtered c.is_read.result (Keeps g.V.Space.view c.args.blocks.now) met
-    layout c.in-Chunked.is filtered c.is_read.ensures c.if-not-is_read.true keeps
-
-pub returns-in-Contiguous-clause-found : goal.returns-in-Contiguous-clause-found
-returns-in-Contiguous-clause-found g c = λ tells.
-    on_ok_weaker c.adopt_elements.result
-    (λ found i met shape elem layout filtered keeps.
-    block_found (g.V.Space.view (space_of c.args.blocks.now)).array c.args.k i c.in-Contiguous.at c.in-Contiguous.len c.args.shape.now c.args.elem c.args.layout.now (Keeps g.V.Space.view c.adopt_elements.new.blocks) met
-    shape elem layout c.in-Contiguous.is (found met keeps))
-    c.adopt_elements.ensures.found
 
 pub returns-in-Contiguous-clause-refused : goal.returns-in-Contiguous-clause-refused
 returns-in-Contiguous-clause-refused g c = λ tells.
+    let x = c.args.elements in
+    let b = array_of g.V.Space.view c.args.blocks.now in
     if_err c.adopt_elements.result _ _
-    (λ stop refused i met own shape elem layout filtered keeps.
-    raw_stopped (g.V.Space.view (space_of c.args.blocks.now)).array (bounds_of (g.V.Space.view (space_of c.args.blocks.now)) own) c.args.k i c.in-Contiguous.at c.in-Contiguous.len c.args.shape.now c.args.elem
-    c.args.layout.now met stop shape elem layout c.in-Contiguous.is (refused met own keeps))
+    (λ stop h i of. refuses_as g.V.Space.view c.args.blocks.now (λ e met. IsPlacedRefused e met c.in-Contiguous.at (product x.shape.now.dims * size_of x.elem) Raw) (λ e. IsStorageRefused b e c.args.k i) stop h.1
+    (raw_stopped b c.args.k i x of c.in-Contiguous.at c.in-Contiguous.len c.in-Contiguous.is h.0))
     c.adopt_elements.ensures.refused
 
 pub returns-in_ok-form-in-Chunked-clause-found : goal.returns-in_ok-form-in-Chunked-clause-found
 returns-in_ok-form-in-Chunked-clause-found g c = λ tells.
+    let x = c.args.elements in
+    let b = array_of g.V.Space.view c.args.blocks.now in
+    let tree = c.in-Chunked.tree_at in
     let f = c.in_ok-form-in-Chunked.form in
-    let k = c.in_ok-form-in-Chunked.ensures.k in
-    let sizes = c.in_ok-form-in-Chunked.ensures.sizes in
-    let rank : f.rank ≡ length c.args.shape.now.dims =
-    rank_of f c.in-Chunked.tree_at (size_of c.args.elem) c.in-Chunked.sizes c.args.shape.now.dims c.args.layout.now c.in_ok-form-in-Chunked.ensures.form sizes c.in-Chunked.is c.requires.stored in
+    let has = c.in_ok-form-in-Chunked.ensures in
+    let rank : f.rank ≡ length x.shape.now.dims = rank_of f tree (size_of x.elem) c.in-Chunked.sizes x.shape.now.dims x.layout.now has.form has.sizes c.in-Chunked.is c.requires.stored in
     on_ok_weaker c.adopt_index.result
-    (λ found i met shape elem layout filtered keeps.
-    index_found (g.V.Space.view (space_of c.args.blocks.now)).array c.args.k i c.in-Chunked.tree_at f.rank c.in-Chunked.sizes c.args.shape.now c.args.layout.now c.args.filtered c.is_read.result
-    (Keeps g.V.Space.view c.adopt_index.new.blocks) met shape layout c.in-Chunked.is filtered c.is_read.ensures c.if-not-is_read.false rank (rw (← k, ← sizes) (found met keeps)))
+    (λ found i of. takes_as g.V.Space.view c.args.blocks.now _ (IsWholeIndex b f tree) (λ bs. (cs : List Chunk) × IsStoredBy b c.args.k i i.layout cs bs) found
+    (index_found b c.args.k i x of tree c.in-Chunked.sizes c.in-Chunked.is c.is_read.result c.is_read.ensures f has.k has.sizes rank c.if-not-is_read.false))
     (c.adopt_index.ensures.found tells)
 
 pub returns-in_ok-form-in-Chunked-clause-refused : goal.returns-in_ok-form-in-Chunked-clause-refused
 returns-in_ok-form-in-Chunked-clause-refused g c = λ tells.
+    let x = c.args.elements in
+    let b = array_of g.V.Space.view c.args.blocks.now in
+    let tree = c.in-Chunked.tree_at in
     let f = c.in_ok-form-in-Chunked.form in
-    let k = c.in_ok-form-in-Chunked.ensures.k in
-    let sizes = c.in_ok-form-in-Chunked.ensures.sizes in
-    let rank : f.rank ≡ length c.args.shape.now.dims =
-    rank_of f c.in-Chunked.tree_at (size_of c.args.elem) c.in-Chunked.sizes c.args.shape.now.dims c.args.layout.now c.in_ok-form-in-Chunked.ensures.form sizes c.in-Chunked.is c.requires.stored in
+    let has = c.in_ok-form-in-Chunked.ensures in
+    let rank : f.rank ≡ length x.shape.now.dims = rank_of f tree (size_of x.elem) c.in-Chunked.sizes x.shape.now.dims x.layout.now has.form has.sizes c.in-Chunked.is c.requires.stored in
     if_err c.adopt_index.result _ _
-    (λ stop refused i met own shape elem layout filtered keeps.
-    index_stopped (g.V.Space.view (space_of c.args.blocks.now)).array (bounds_of (g.V.Space.view (space_of c.args.blocks.now)) own) c.args.k i c.in-Chunked.tree_at f.rank c.in-Chunked.sizes c.args.shape.now c.args.layout.now
-    c.args.filtered c.is_read.result met stop shape layout c.in-Chunked.is filtered c.is_read.ensures c.if-not-is_read.false rank (rw (← k, ← sizes) (refused met own keeps)))
+    (λ stop refused i of. refuses_as g.V.Space.view c.args.blocks.now (IsWholeRefused b f tree) (λ e. IsStorageRefused b e c.args.k i) stop refused
+    (index_stopped b c.args.k i x of tree c.in-Chunked.sizes c.in-Chunked.is c.is_read.result c.is_read.ensures f has.k has.sizes rank c.if-not-is_read.false))
     (c.adopt_index.ensures.refused tells)
-
-pub returns-in-Contiguous-clause-listed : goal.returns-in-Contiguous-clause-listed
-returns-in-Contiguous-clause-listed g c = on_ok_weaker c.adopt_elements.result (λ found. (_, found c.requires.listed.0 c.requires.listed.1)) c.adopt_elements.ensures.found
-
-pub returns-in-Contiguous-clause-alike : goal.returns-in-Contiguous-clause-alike
-returns-in-Contiguous-clause-alike g c = subst (λ s. g.V.Kept.Alike (space_of c.args.blocks.now) s) (sym c.adopt_elements.ensures.space) (g.V.Kept.reflexive _)
-
-pub returns-in-Contiguous-clause-cause : goal.returns-in-Contiguous-clause-cause
-returns-in-Contiguous-clause-cause g c = λ failed. absurd (c.adopt_elements.ensures.no_fault failed)
