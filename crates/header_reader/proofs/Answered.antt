@@ -92,6 +92,9 @@ pub record AreFirst (b : Array) (at n : ℕ) (items : List ℕ) : Type 0 where
   pub most : n ≤ 16
   pub four : at + 4 ≤ 2 ^ 64 → 4 ≤ n
 
+pub first_seen : (b : Array) (at n : ℕ) (items seen : List ℕ) → seen ≡ items → items ≡ bytes_of b at n → (at + 16 ≤ 2 ^ 64 → n ≡ 16) → n ≤ 16 → (at + 4 ≤ 2 ^ 64 → 4 ≤ n) → AreFirst b at n seen
+first_seen b at n items seen same is whole most four = record { bytes = same ∙ is; whole = whole; most = most; four = four }
+
 first_four : (b : Array) (at n : ℕ) (items : List ℕ) → AreFirst b at n items → 4 ≤ n → take 4 items ≡ bytes_of b at 4
 first_four b at n items h some = ap (take 4) h.bytes ∙ take-map-range_with_len b at n 4 some
 

@@ -8,5 +8,4 @@ mod messages;
 mod reading;
 mod walk;
 
-pub use messages::Messages;
 pub use reading::{Header, read_header};

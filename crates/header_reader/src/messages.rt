@@ -35,7 +35,7 @@ const SYMBOL_TABLE: u16 = 0x11;
 
 /// The messages of one object header as far as they decide what the object is: of each type the first one met.
 #[derive(Debug, Drop)]
-pub struct Messages {
+pub(crate) struct Messages {
     space: Option<Kept>,
     elem: Option<Kept>,
     fill: Option<Kept>,

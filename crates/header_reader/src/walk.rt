@@ -1,4 +1,4 @@
-ghost use Rattle.std.specs.Prelude.{◌≡◌, ◌+◌, ◌^◌, ◌<◌, ◌≤◌, ◌++◌, ◌∷◌, ◌⊎◌, [], List, IsTrue, IfOk};
+ghost use Rattle.std.specs.Prelude.{◌≡◌, ◌+◌, ◌^◌, ◌<◌, ◌≤◌, ◌++◌, ◌∷◌, ◌↔◌, ◌⊎◌, [], List, IsTrue, IfOk};
 ghost use Rattle.std.specs.Prelude.{IfErr, IfSome, IfNone, OnOk, IsErrOf, length};
 ghost use Rattle.std.specs.List.{flat_map};
 ghost use Rattle.h5_base.specs.Fields.{u64_at};
@@ -43,6 +43,13 @@ pub(crate) struct Walk {
     pub total: u64,
 }
 
+// Whether messages of this type have two numbers.
+fn has_numbers(kind: u16) -> bool
+    ensures { IsTrue result ↔ (kind ≡ 0x10) ⊎ (kind ≡ 0x11) }
+{
+    kind == CONTINUATION || kind == SYMBOL_TABLE
+}
+
 // The message at a place, where it is whole: a continuation and a symbol table have two numbers of 8 bytes.
 fn whole_message(bytes: &[u8], place: usize) -> Option<Message>
     ensures found { IfSome result (λ m. SpellsMessage m bytes.now place) }
@@ -51,8 +58,7 @@ fn whole_message(bytes: &[u8], place: usize) -> Option<Message>
         → ((m.kind ≡ 0x10) ⊎ (m.kind ≡ 0x11) → 16 ≤ m.len) → ⊥) }
 {
     let message = read_message(bytes, place)?;
-    let has_numbers = message.kind == CONTINUATION || message.kind == SYMBOL_TABLE;
-    if has_numbers && message.len < 16 {
+    if has_numbers(message.kind) && message.len < 16 {
         return None;
     }
     Some(message)

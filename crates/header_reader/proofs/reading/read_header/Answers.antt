@@ -1,17 +1,16 @@
 -- The first bytes say which version a header has, and whether it has a prefix.
-use Rattle.std.proofs.Common.{◌≡◌, ◌∙◌, ◌∷◌, [], sym, subst}
+use Rattle.std.proofs.Common.{◌≡◌, ◌∷◌, [], sym, subst}
 use Rattle.block_space.specs.Blocks.{space_of}
 use Rattle.block_space.proofs.Stopped.{if_some}
 use Rattle.outside.proofs.Causes.{one_later}
 use Rattle.header_reader.proofs.Stops.{handed}
-use Rattle.header_reader.proofs.Answered.{AreFirst, later_read, later_found, later_refused, prefix_read, prefix_refused, refused_back, first_on, found_same, refused_same, none_later, none_spelled}
+use Rattle.header_reader.proofs.Answered.{AreFirst, first_seen, later_read, later_found, later_refused, prefix_read, prefix_refused, refused_back, first_on, found_same, refused_same, none_later, none_spelled}
 use Rattle.header_reader.proofs.reading.read_header.Goals as goal
 
 pub returns-then-is_later-clause-found : goal.returns-then-is_later-clause-found
 returns-then-is_later-clause-found g c =
     λ told met keeps. let v = g.V.Space.view c.args.blocks.now.space in
-    let first : AreFirst v.array c.args.at c.first_len.result c.as_slice.result.now =
-    record { bytes = c.as_slice.ensures.value ∙ c.in_ok-first.ensures.bytes told; whole = c.first_len.ensures.whole; most = c.first_len.ensures.most; four = c.first_len.ensures.four } in
+    let first = first_seen v.array c.args.at c.first_len.result c.in_ok-first.first.items c.as_slice.result.now c.as_slice.ensures.value (c.in_ok-first.ensures.bytes told) c.first_len.ensures.whole c.first_len.ensures.most c.first_len.ensures.four in
     let is = later_read v.array c.args.at c.first_len.result c.as_slice.result.now first (c.is_later.ensures.0 c.if-is_later.true) in
     (record { start = c.args.at; len = 4 } ∷ [], later_found v c.args.at is, c.in_ok-adopt.ensures.found met (c.read_bytes.ensures.kept met keeps))
 
@@ -20,8 +19,7 @@ returns-in_err-adopt-clause-refused g c =
     λ told. let v = g.V.Space.view c.args.blocks.now.space in
     let w = g.V.Space.view c.read_bytes.new.self.space in
     let same : v ≡ w = g.met.V.Space.alike _ _ c.read_bytes.ensures.alike in
-    let first : AreFirst v.array c.args.at c.first_len.result c.as_slice.result.now =
-    record { bytes = c.as_slice.ensures.value ∙ c.in_ok-first.ensures.bytes told; whole = c.first_len.ensures.whole; most = c.first_len.ensures.most; four = c.first_len.ensures.four } in
+    let first = first_seen v.array c.args.at c.first_len.result c.in_ok-first.first.items c.as_slice.result.now c.as_slice.ensures.value (c.in_ok-first.ensures.bytes told) c.first_len.ensures.whole c.first_len.ensures.most c.first_len.ensures.four in
     let is = later_read v.array c.args.at c.first_len.result c.as_slice.result.now first (c.is_later.ensures.0 c.if-is_later.true) in
     handed c.from_residual-in_err-adopt.result c.in_err-adopt.field-0.0 _ c.from_residual-in_err-adopt.ensures.1
     (λ met own keeps. if_some _ _ _ (λ r refused. later_refused v w own met c.args.at r same is refused) (c.in_err-adopt.ensures.refused met own (c.read_bytes.ensures.kept met keeps)))
@@ -31,8 +29,7 @@ returns-in-Some-clause-found g c =
     λ told. let v = g.V.Space.view c.args.blocks.now.space in
     let w = g.V.Space.view c.read_bytes.new.self.space in
     let same : v ≡ w = g.met.V.Space.alike _ _ c.read_bytes.ensures.alike in
-    let first : AreFirst v.array c.args.at c.first_len.result c.as_slice-2.result.now =
-    record { bytes = c.as_slice-2.ensures.value ∙ c.in_ok-first.ensures.bytes told; whole = c.first_len.ensures.whole; most = c.first_len.ensures.most; four = c.first_len.ensures.four } in
+    let first = first_seen v.array c.args.at c.first_len.result c.in_ok-first.first.items c.as_slice-2.result.now c.as_slice-2.ensures.value (c.in_ok-first.ensures.bytes told) c.first_len.ensures.whole c.first_len.ensures.most c.first_len.ensures.four in
     let prefix = prefix_read w.array c.args.at c.first_len.result c.as_slice-2.result.now c.in-Some.prefix (first_on v w c.args.at c.first_len.result c.as_slice-2.result.now same first) c.in-Some.ensures.found in
     found_same g.V.Space.view c.args.blocks.now c.read_bytes.new.self c.read_known.new.blocks c.args.at c.read_known.result same c.read_bytes.ensures.kept (c.read_known.ensures.found told prefix)
 
@@ -41,8 +38,7 @@ returns-in-Some-clause-refused g c =
     λ told. let v = g.V.Space.view c.args.blocks.now.space in
     let w = g.V.Space.view c.read_bytes.new.self.space in
     let same : v ≡ w = g.met.V.Space.alike _ _ c.read_bytes.ensures.alike in
-    let first : AreFirst v.array c.args.at c.first_len.result c.as_slice-2.result.now =
-    record { bytes = c.as_slice-2.ensures.value ∙ c.in_ok-first.ensures.bytes told; whole = c.first_len.ensures.whole; most = c.first_len.ensures.most; four = c.first_len.ensures.four } in
+    let first = first_seen v.array c.args.at c.first_len.result c.in_ok-first.first.items c.as_slice-2.result.now c.as_slice-2.ensures.value (c.in_ok-first.ensures.bytes told) c.first_len.ensures.whole c.first_len.ensures.most c.first_len.ensures.four in
     let prefix = prefix_read w.array c.args.at c.first_len.result c.as_slice-2.result.now c.in-Some.prefix (first_on v w c.args.at c.first_len.result c.as_slice-2.result.now same first) c.in-Some.ensures.found in
     refused_same g.V.Space.view c.args.blocks.now c.read_bytes.new.self c.args.at c.read_known.result same c.read_bytes.ensures.kept (c.read_known.ensures.refused told prefix)
 
