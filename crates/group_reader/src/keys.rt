@@ -9,8 +9,7 @@ use crate::link::FoundLink;
 use crate::names::{ascend, lie_between};
 use crate::table::Table;
 use crate::text::text_at;
-use block_reader::TreeStop;
-use h5_base::BlockKind;
+use h5_base::{BlockKind, Stop};
 
 /// Checks the keys at both sides of a child of the node at `node_at`: that the names of the links `here` under it lie
 /// between them, and come after those of the links `done` under the children before it.
@@ -21,30 +20,24 @@ pub(crate) fn check_keys(
     high_at: u64,
     done: &[FoundLink],
     here: &[FoundLink],
-) -> Result<(), TreeStop>
+) -> Result<(), Stop>
     ensures found { AreOrdered (names_of (links_of done.now)) → AreOrdered (names_of (links_of here.now))
         → OnOk result (FitKeys table.now.segment.now low_at high_at (links_of done.now) (links_of here.now)) }
     ensures refused { AreOrdered (names_of (links_of done.now)) → AreOrdered (names_of (links_of here.now))
         → IfErr result (λ stop. IfSome (refusal_of stop)
         (IsKeyRefused table.now.segment.now table.now.heap_at node_at low_at high_at (links_of done.now)
         (links_of here.now))) }
-    ensures no_fault { IsErrOf result TreeStop.Failed → ⊥ }
+    ensures no_fault { ¬ IsErrOf result Stop.Failed }
 {
     let (Some(low), Some(high)) = (
         text_at(table.segment, low_at),
         text_at(table.segment, high_at),
     ) else {
-        return Err(TreeStop::Malformed {
-            at: table.heap_at,
-            kind: BlockKind::Heap,
-        });
+        return Err(Stop::malformed(table.heap_at, BlockKind::Heap));
     };
     if lie_between(low, high, here) && ascend(done, here) {
         Ok(())
     } else {
-        Err(TreeStop::Malformed {
-            at: node_at,
-            kind: BlockKind::Tree,
-        })
+        Err(Stop::malformed(node_at, BlockKind::Tree))
     }
 }
