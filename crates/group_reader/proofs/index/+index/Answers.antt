@@ -1,0 +1,1 @@
+use Rattle.group_reader.proofs.index.+index.Goals as goal
