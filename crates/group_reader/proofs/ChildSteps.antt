@@ -11,11 +11,11 @@ use Rattle.block_space.specs.Blocks.{Keeps, Takes, Refuses}
 use Rattle.block_space.specs.declared.blocks.Blocks.{Blocks}
 use Rattle.block_space.proofs.Stopped.{if_some}
 use Rattle.object_model.specs.Tree.{AreOrdered}
-use Rattle.file_model.specs.Groups.{Found, Under, AreChildren}
+use Rattle.file_model.specs.Groups.{Ks, Found, Under, AreChildren}
 use Rattle.file_model.specs.RefusedGroups.{RefusedUnder, names_of, IsKeyRefused, AreChildrenRefused}
 use Rattle.group_reader.specs.declared.gathered.Gathered.{Gathered}
 use Rattle.group_reader.specs.Links.{Adds}
-use Rattle.group_reader.specs.Reading.{FitKeys}
+use Rattle.group_reader.specs.Reading.{IsBelow, IsBelowRefused, FitKeys}
 use Rattle.group_reader.proofs.EntryLemmas.{adds_none, adds_on, adds_as}
 use Rattle.group_reader.proofs.ChildLemmas.{AreFirst, TakesFirst, first_none, first_more, first_child_refused, first_key_refused, first_all}
 
@@ -25,6 +25,17 @@ UnderIn = SpaceView → Under
 
 abbrev pub RefusedIn : Type 1
 RefusedIn = SpaceView → Bounds → RefusedUnder
+
+-- what stands under a node of this level
+abbrev pub below : Ks → List ℕ → ℕ → UnderIn
+below ks s level = λ v. IsBelow v.array ks s level
+
+abbrev pub below_refused : Ks → List ℕ → (heap level : ℕ) → RefusedIn
+below_refused ks s heap level = λ v e. IsBelowRefused v.array e ks s heap level
+
+-- what is shown of slices is shown of the keys and children that they are
+pub as_node : (P : List ℕ → List ℕ → Type 0) (ks cs ks' cs' : List ℕ) → ks ≡ ks' → cs ≡ cs' → P ks cs → P ks' cs'
+as_node P ks cs ks' cs' e f h = subst (λ (l : List ℕ). P l cs') e (subst (λ (l : List ℕ). P ks l) f h)
 
 -- the keys and children that are left before a child
 pub record IsCut (ks cs : List ℕ) (k l : ℕ) (ks' : List ℕ) (c : ℕ) (cs' : List ℕ) : Type 0 where

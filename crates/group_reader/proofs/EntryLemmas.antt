@@ -1,5 +1,5 @@
 -- Links that are kept behind others, one by one with the entries that tell them.
-use Rattle.std.proofs.Common.{◌≡◌, ℕ, ◌+◌, ◌-◌, ◌<◌, ◌≤◌, suc, Bool, List, [], ◌∷◌, ◌++◌, length, length-drop, length-append, take, drop, get_or, Option, IfSome, refl, sym, ◌∙◌, ap, subst, arith}
+use Rattle.std.proofs.Common.{◌≡◌, ℕ, ◌+◌, ◌-◌, ◌<◌, ◌≤◌, suc, Bool, List, [], ◌∷◌, ◌++◌, length, length-drop, length-append, take, drop, get_or, Option, IfSome, sym, ◌∙◌, ap, subst, arith}
 use Rattle.std.proofs.lemmas.List.{take_all, take_more, take-map, drop-map, map-append, length-map, append_assoc, append-nil, take-append-drop}
 use Rattle.std.proofs.lemmas.List.Sums.{sum_by-append}
 use Rattle.std.proofs.Math.Seq.{take-append_seam, drop-append_seam, drop-cons}
@@ -103,7 +103,7 @@ add_link s done e name before mid now k = record {
   part = (
     (subst (HasText s e.name_at) (sym k.name_is) k.there, k.target, tt),
     subst AreOrdered (sym (map-append (λ (f : Found). f.name) done (found_of k.link ∷ [])))
-    (subst (λ (n : Name). AreOrdered (names_of done ++ n ∷ [])) (sym k.name_is) k.ordered),
+        (subst (λ (n : Name). AreOrdered (names_of done ++ n ∷ [])) (sym k.name_is) k.ordered),
   );
 }
 

@@ -1,6 +1,6 @@
 -- Symbol table nodes that are refused.
 use Rattle.std.proofs.Common.{◌≡◌, ℕ, List, IfSome, IfErr, Result, refl, sym, ◌∙◌, ap, subst}
-use Rattle.outside.specs.Array.{Array, bytes_of}
+use Rattle.outside.specs.Array.{bytes_of}
 use Rattle.outside.specs.Blocks.{Block, Bounds, IsBlockRefused}
 use Rattle.outside.specs.Space.{SpaceView, bounds_of}
 use Rattle.h5_base.specs.declared.kinds.BlockKind.TheVariants as kind

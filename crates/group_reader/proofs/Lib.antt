@@ -5,4 +5,5 @@ pub mod IndexLemmas
 pub mod LeafLemmas
 pub mod NameLemmas
 pub mod NodeLemmas
+pub mod TableLemmas
 pub mod Told

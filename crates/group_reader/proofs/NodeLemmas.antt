@@ -1,14 +1,12 @@
 -- Nodes that are read, or refused by themselves, whatever stands under them.
-use Rattle.std.proofs.Common.{◌≡◌, ℕ, List, [], ◌∷◌, ◌++◌, Option, IfSome, refl, sym, ◌∙◌, ap, subst, inl, inr}
-use Rattle.outside.specs.Array.{Array, bytes_of}
+use Rattle.std.proofs.Common.{◌≡◌, ℕ, List, Option, IfSome, subst, inl}
+use Rattle.outside.specs.Array.{Array}
 use Rattle.outside.specs.Blocks.{Block, Bounds, IsBlockRefused}
 use Rattle.h5_base.specs.declared.kinds.BlockKind.TheVariants as kind
 use Rattle.h5_base.specs.declared.refusal.Refusal.{Refusal}
-use Rattle.h5_base.specs.declared.refusal.Refusal.TheVariants.{Malformed}
-use Rattle.node_codec.specs.GroupNodes.{SpellsGroupNode, group_node_len}
-use Rattle.node_codec.specs.declared.group_node.GroupNode.{GroupNode}
+use Rattle.node_codec.specs.GroupNodes.{group_node_len}
 use Rattle.block_space.proofs.Stopped.{if_some}
-use Rattle.group_reader.specs.Reading.{node_block, IsNodeAt, IsHeadRefused}
+use Rattle.group_reader.specs.Reading.{IsHeadRefused}
 
 pub block_head : (b : Array) (e : Bounds) (k : ℕ) (met : List Block) (at len : ℕ) (o : Option Refusal) → len ≡ group_node_len k → IfSome o (IsBlockRefused e met (record { start = at; len = len }) kind.Tree) → IfSome o (IsHeadRefused b e k met at)
 block_head b e k met at len o is h =

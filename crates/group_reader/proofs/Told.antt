@@ -1,5 +1,5 @@
 -- A stop that tells a refusal.
-use Rattle.std.proofs.Common.{◌≡◌, IfErr, IfSome, IsErrOf, Ok, Err, Result, sym, ◌∙◌, ap, subst}
+use Rattle.std.proofs.Common.{◌≡◌, IfErr, IfSome, IsErrOf, Ok, Err, Result, sym, ◌∙◌, subst}
 use Rattle.std.specs.Result.{IsErrAnd}
 use Rattle.h5_base.specs.declared.refusal.Refusal.{Refusal}
 use Rattle.h5_base.specs.declared.refusal.Stop.{Stop}
@@ -14,6 +14,6 @@ pub passed : {T : Type 0} (r : Result T Stop) (e : Stop) (P : Stop → Type 0) �
 passed (Ok x) e P is h = tt
 passed (Err x) e P is h = subst P (sym is) h
 
-pub passed_failed : {T Q : Type 0} (r : Result T Stop) (e : Stop) → IsErrAnd r (λ x. x ≡ e) → (IsErrOf {T = T} (Err e) Failed → Q) → IsErrOf r Failed → Q
+pub passed_failed : {T Q : Type 0} (r : Result T Stop) (e : Stop) → IsErrAnd r (λ x. x ≡ e) → (e ≡ Failed → Q) → IsErrOf r Failed → Q
 passed_failed (Ok x) e is h failed = absurd is
-passed_failed (Err x) e is h failed = h (ap Err (sym is) ∙ failed)
+passed_failed (Err x) e is h failed = let same : x ≡ Failed = cc in h (sym is ∙ same)

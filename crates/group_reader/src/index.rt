@@ -7,7 +7,7 @@ ghost use Rattle.group_reader.specs.Links.{Adds};
 ghost use Rattle.group_reader.specs.Reading.{IsBelow, IsBelowRefused};
 
 use crate::gathered::Gathered;
-use crate::keys::check_keys;
+use crate::keys::{check_keys, parts_at};
 use crate::leaf::read_leaf;
 use crate::node::read_node;
 use crate::table::Table;
@@ -100,7 +100,7 @@ pub(crate) fn read_children<V: Space>(
     for (i, child) in children.iter().enumerate() {
         let middle = gathered.links.len();
         read_child(alloc, blocks, table, node.level, *child, gathered)?;
-        let (done, here) = (&gathered.links[begin..middle], &gathered.links[middle..]);
+        let (done, here) = parts_at(&gathered.links, begin, middle);
         check_keys(table, node_at, keys[i], keys[i + 1], done, here)?;
     }
     Ok(())

@@ -1,4 +1,4 @@
-ghost use Rattle.std.specs.Prelude.{IfErr, IfSome, OnOk, IsErrOf};
+ghost use Rattle.std.specs.Prelude.{◌≡◌, ◌≤◌, ◌-◌, IfErr, IfSome, OnOk, IsErrOf, length, take, drop};
 ghost use Rattle.object_model.specs.Tree.{AreOrdered};
 ghost use Rattle.file_model.specs.RefusedGroups.{names_of, IsKeyRefused};
 ghost use Rattle.h5_base.specs.Refusals.{refusal_of};
@@ -10,6 +10,20 @@ use crate::names::{ascend, lie_between};
 use crate::table::Table;
 use crate::text::text_at;
 use h5_base::{BlockKind, Stop};
+
+/// The links from `begin` on, in two parts: those before `middle`, and those from there on.
+pub(crate) fn parts_at(
+    links: &[FoundLink],
+    begin: usize,
+    middle: usize,
+) -> (&[FoundLink], &[FoundLink])
+    requires order { begin ≤ middle }
+    requires inside { middle ≤ length links.now }
+    ensures done { result.0.now ≡ take (middle - begin) (drop begin links.now) }
+    ensures here { result.1.now ≡ drop middle links.now }
+{
+    (&links[begin..middle], &links[middle..])
+}
 
 /// Checks the keys at both sides of a child of the node at `node_at`: that the names of the links `here` under it lie
 /// between them, and come after those of the links `done` under the children before it.

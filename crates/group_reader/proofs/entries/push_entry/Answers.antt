@@ -1,7 +1,6 @@
-use Rattle.std.proofs.Common.{◌≡◌, ℕ, IfSome, drop, refl, ◌∙◌}
+use Rattle.std.proofs.Common.{◌≡◌, IfSome, drop, refl, ◌∙◌}
 use Rattle.h5_base.specs.Refusals.{refusal_of}
 use Rattle.h5_base.specs.declared.kinds.BlockKind.TheVariants as kind
-use Rattle.h5_base.specs.declared.refusal.Refusal.{Refusal}
 use Rattle.h5_base.specs.declared.refusal.Refusal.TheVariants.{Malformed}
 use Rattle.node_codec.specs.Snod.{soft_value_at}
 use Rattle.file_model.specs.RefusedGroups.{HasNoText, IsEntryRefused, Disordered, NoValue}

@@ -1,4 +1,4 @@
-use Rattle.std.proofs.Common.{ℕ, ◌∙◌, sym, subst, refl}
+use Rattle.std.proofs.Common.{◌∙◌, subst, refl}
 use Rattle.outside.specs.Space.{bounds_of}
 use Rattle.h5_base.specs.Refusals.{refusal_of}
 use Rattle.h5_base.specs.declared.kinds.BlockKind.TheVariants as kind
