@@ -1,34 +1,40 @@
 -- A group's heap and B-tree that are held aren't refused.
-use Rattle.std.proofs.Common.{◌≡◌, ◌⊎◌, ℕ, zero, suc, ◌+◌, ◌<◌, ◌≤◌, true, false, List, [], ◌∷◌, ◌++◌, length, map, refl, sym, ◌∙◌, ap, subst, arith, inl, inr}
-use Rattle.std.specs.List.{Contains}
+use Rattle.std.proofs.Common.{◌≡◌, ℕ, zero, suc, List, [], ◌∷◌, ◌++◌, refl, sym, ◌∙◌, ap, subst, arith, inl, inr}
 use Rattle.std.proofs.lemmas.List.{append_assoc}
 use Rattle.outside.specs.Array.{Array, bytes_of}
 use Rattle.outside.specs.Blocks.{Block, Bounds, placed}
 use Rattle.h5_base.specs.declared.kinds.BlockKind.TheVariants as kind
 use Rattle.node_codec.specs.Snod.{SpellsSnod, soft_value_at, snod_len}
-use Rattle.node_codec.specs.GroupNodes.{SpellsGroupNode, group_node_len}
+use Rattle.node_codec.specs.GroupNodes.{group_node_len}
 use Rattle.node_codec.specs.Heap.{SpellsHeap}
 use Rattle.node_codec.specs.declared.snod.SnodEntry.{SnodEntry}
 use Rattle.node_codec.specs.declared.group_node.GroupNode.{GroupNode}
 use Rattle.node_codec.specs.declared.heap.HeapHead.{HeapHead}
-use Rattle.object_model.specs.Tree.{Name, name_lt, AreOrdered}
+use Rattle.object_model.specs.Tree.{Name, AreOrdered}
 use Rattle.file_model.specs.Groups.{Ks, Found, Header, Text, HasText, IsTarget, AreLinks, AreBetween, Under, AreChildren, IsLeaf, IsNode, IsIndex, HasLinks}
-use Rattle.file_model.specs.Limits.{IsSmallHeap, most_segment}
+use Rattle.file_model.specs.Limits.{IsSmallHeap}
 use Rattle.h5_base.specs.declared.refusal.Refusal.{Refusal}
-use Rattle.outside.specs.Blocks.{IsBlockRefused, IsPlacedRefused}
-use Rattle.file_model.specs.RefusedGroups.{RefusedUnder, HasNoText, IsLeafRefused, LeafBlock, NoLeaf, NoName, NoValue, NamesDisordered, names_of, IsKeyRefused, NoKey, NotBetween, LinksDisordered, AreChildrenRefused, IsNodeRefused, NodeBlock, NoNode, InChildren, IsIndexRefused, heap_block, root_level, IsTableRefused, HeapBlock, NoHeap, LargeHeap, SegmentBlock, InNodes}
-use Rattle.file_model.proofs.UniqueGroups.{text_same, IsOne, leaf_same, index_same, level_of}
-use Rattle.file_model.proofs.NoFault.{Room, free_of, not_refused, room_after, placed_not_refused, contains_cases, no_element}
+use Rattle.outside.specs.Blocks.{IsPlacedRefused}
+use Rattle.file_model.specs.RefusedGroups.{RefusedUnder, names_of, IsEntryRefused, NoName, Disordered, NoValue, IsLeafRefused, LeafBlock, NoLeaf, InEntries, IsKeyRefused, NoKey, NotBetween, LinksDisordered, AreChildrenRefused, IsNodeRefused, NodeBlock, NoNode, InChildren, IsIndexRefused, heap_block, root_level, IsTableRefused, HeapBlock, NoHeap, LargeHeap, SegmentBlock, InNodes}
+use Rattle.file_model.proofs.UniqueGroups.{text_same, link_same, IsOne, leaf_same, index_same, level_of}
+use Rattle.file_model.proofs.NoFault.{Room, free_of, not_refused, room_after, placed_not_refused}
+
+-- ---- names in order
+
+ordered_front : (ms ns : List Name) → AreOrdered (ms ++ ns) → AreOrdered ms
+ordered_front [] ns h = tt
+ordered_front (m ∷ []) ns h = (tt, tt)
+ordered_front (m ∷ n ∷ ms) ns h = (h.0, ordered_front (n ∷ ms) ns h.1)
+
+ordered_back : (ms ns : List Name) → AreOrdered (ms ++ ns) → AreOrdered ns
+ordered_back [] ns h = h
+ordered_back (m ∷ ms) ns h = ordered_back ms ns h.1
+
+names_both : (fs gs : List Found) → names_of (fs ++ gs) ≡ names_of fs ++ names_of gs
+names_both [] gs = refl
+names_both (f ∷ fs) gs = ap (λ (l : List Name). f.name ∷ l) (names_both fs gs)
 
 -- ---- a symbol table node
-
-has_name : (segment : List ℕ) (es : List SnodEntry) (fs : List Found) (x : SnodEntry) → AreLinks segment es fs → Contains es x → (text : List ℕ) × HasText segment x.name_at text
-has_name segment [] fs x h c = absurd (no_element x c)
-has_name segment (e ∷ es) [] x h c = absurd h
-has_name segment (e ∷ es) (f ∷ fs) x h c = elim (contains_cases e es x c) [
-  | inl is ↦ (f.name, subst (λ (y : SnodEntry). HasText segment y.name_at f.name) is h.0)
-  | inr rest ↦ has_name segment es fs x h.2 rest
-]
 
 value_of : (segment : List ℕ) (e : SnodEntry) (f : Found) → IsTarget segment e f.target → e.cache ≡ 2 → (text : List ℕ) × HasText segment (soft_value_at e) text
 value_of segment e f h two = go f.target h
@@ -37,28 +43,38 @@ value_of segment e f h two = go f.target h
     go (Header at) h = absurd (omega (arith, h.0, two))
     go (Text text) h = (text, h.1)
 
-has_value : (segment : List ℕ) (es : List SnodEntry) (fs : List Found) (x : SnodEntry) → AreLinks segment es fs → Contains es x → x.cache ≡ 2 → (text : List ℕ) × HasText segment (soft_value_at x) text
-has_value segment [] fs x h c two = absurd (no_element x c)
-has_value segment (e ∷ es) [] x h c two = absurd h
-has_value segment (e ∷ es) (f ∷ fs) x h c two = elim (contains_cases e es x c) [
-  | inl is ↦
-      let target = subst (λ (y : SnodEntry). IsTarget segment y f.target) is h.1 in
-      value_of segment x f target two
-  | inr rest ↦ has_value segment es fs x h.2 rest two
-]
+-- the link that an entry tells, behind those of the entries before it
+record Behind (segment : List ℕ) (x : SnodEntry) (done fs : List Found) : Type 0 where
+  pub link : Found
+  pub more : List Found
+  pub are : fs ≡ done ++ link ∷ more
+  pub name : HasText segment x.name_at link.name
+  pub target : IsTarget segment x link.target
 
--- two entries side by side have names in order
-in_order : (segment : List ℕ) (before later : List SnodEntry) (x y : SnodEntry) (fs : List Found) (m n : Name) → AreLinks segment (before ++ x ∷ y ∷ later) fs → AreOrdered (names_of fs)
-    → HasText segment x.name_at m → HasText segment y.name_at n → name_lt m n ≡ false → ⊥
-in_order segment [] later x y [] m n h ordered a b wrong = h
-in_order segment [] later x y (f ∷ []) m n h ordered a b wrong = h.2
-in_order segment [] later x y (f ∷ g ∷ fs) m n h ordered a b wrong =
-    let first : f.name ≡ m = text_same segment x.name_at f.name m h.0 a in
-    let second : g.name ≡ n = text_same segment y.name_at g.name n h.2.0 b in
-    let right : name_lt m n ≡ true = (λ j. name_lt (sym first j) (sym second j)) ∙ ordered.0 in
-    cc
-in_order segment (e ∷ es) later x y [] m n h ordered a b wrong = h
-in_order segment (e ∷ es) later x y (f ∷ fs) m n h ordered a b wrong = in_order segment es later x y fs m n h.2 ordered.1 a b wrong
+link_behind : (segment : List ℕ) (before later : List SnodEntry) (x : SnodEntry) (done fs : List Found) → AreLinks segment before done → AreLinks segment (before ++ x ∷ later) fs → Behind segment x done fs
+link_behind segment [] later x [] [] h k = absurd k
+link_behind segment [] later x [] (f ∷ fs) h k = record { link = f; more = fs; are = refl; name = k.0; target = k.1 }
+link_behind segment [] later x (d ∷ done) fs h k = absurd h
+link_behind segment (e ∷ before) later x [] fs h k = absurd h
+link_behind segment (e ∷ before) later x (d ∷ done) [] h k = absurd k
+link_behind segment (e ∷ before) later x (d ∷ done) (f ∷ fs) h k =
+    let next = link_behind segment before later x done fs h.2 k.2 in
+    let same : f ≡ d = link_same segment e f d k.0 k.1 h.0 h.1 in
+    record { link = next.link; more = next.more; are = (λ j. same j ∷ next.are j); name = next.name; target = next.target }
+
+ordered_to : (done more : List Found) (f : Found) → AreOrdered (names_of (done ++ f ∷ more)) → AreOrdered (names_of done ++ f.name ∷ [])
+ordered_to done more f ordered =
+    let all : AreOrdered (names_of done ++ f.name ∷ names_of more) = subst AreOrdered (names_both done (f ∷ more)) ordered in
+    ordered_front (names_of done ++ f.name ∷ []) (names_of more) (subst AreOrdered (sym (append_assoc (names_of done) (f.name ∷ []) (names_of more))) all)
+
+entry_not : (segment : List ℕ) (heap node : ℕ) (done fs : List Found) (x : SnodEntry) (r : Refusal) → Behind segment x done fs → AreOrdered (names_of fs) → IsEntryRefused segment heap node done x r → ⊥
+entry_not segment heap node done fs x r h ordered (NoName none line) = none h.link.name h.name
+entry_not segment heap node done fs x r h ordered (Disordered name there wrong line) =
+    let to = ordered_to done h.more h.link (subst (λ (l : List Found). AreOrdered (names_of l)) h.are ordered) in
+    wrong (subst (λ (n : Name). AreOrdered (names_of done ++ n ∷ [])) (text_same segment x.name_at h.link.name name h.name there) to)
+entry_not segment heap node done fs x r h ordered (NoValue name there behind two none line) =
+    let t = value_of segment x h.link h.target two in
+    none t.0 t.1
 
 -- what stands under a child isn't refused
 abbrev NotUnder : Bounds → Under → RefusedUnder → Type 0
@@ -82,25 +98,11 @@ leaf_not b e ks segment heap met later at fs bs r h ordered room refused = go re
     go : IsLeafRefused b e ks segment heap met at r → ⊥
     go (LeafBlock k) = not_refused e met own kind.Snod r (free_of e met own later room') k
     go (NoLeaf none line) = none h.entries h.spelled
-    go (NoName entries x spelled c none line) = let t = has_name segment entries fs x (links entries spelled) c in none t.0 t.1
-    go (NoValue entries x spelled c two none line) = let t = has_value segment entries fs x (links entries spelled) c two in none t.0 t.1
-    go (NamesDisordered before more x y m n spelled first second wrong line) =
-        in_order segment before more x y fs m n (links (before ++ x ∷ y ∷ more) spelled) ordered first second wrong
+    go (InEntries entries spelled k) =
+        let all = subst (λ (l : List SnodEntry). AreLinks segment l fs) k.split (links entries spelled) in
+        entry_not segment heap at k.done fs k.entry r (link_behind segment k.before k.later k.entry k.done fs k.links all) ordered k.refused
 
 -- ---- nodes
-
-ordered_front : (ms ns : List Name) → AreOrdered (ms ++ ns) → AreOrdered ms
-ordered_front [] ns h = tt
-ordered_front (m ∷ []) ns h = (tt, tt)
-ordered_front (m ∷ n ∷ ms) ns h = (h.0, ordered_front (n ∷ ms) ns h.1)
-
-ordered_back : (ms ns : List Name) → AreOrdered (ms ++ ns) → AreOrdered ns
-ordered_back [] ns h = h
-ordered_back (m ∷ ms) ns h = ordered_back ms ns h.1
-
-names_both : (fs gs : List Found) → names_of (fs ++ gs) ≡ names_of fs ++ names_of gs
-names_both [] gs = refl
-names_both (f ∷ fs) gs = ap (λ (l : List Name). f.name ∷ l) (names_both fs gs)
 
 key_not : (segment : List ℕ) (heap node k l : ℕ) (low high : Name) (done here : List Found) (r : Refusal) → HasText segment k low → HasText segment l high → AreBetween low high here → AreOrdered (names_of (done ++ here))
     → IsKeyRefused segment heap node k l done here r → ⊥

@@ -34,6 +34,9 @@ target_same s e (Header x) (Text y) a b = absurd (omega (arith, a.0, b.0))
 target_same s e (Text x) (Header y) a b = absurd (omega (arith, a.0, b.0))
 target_same s e (Text x) (Text y) a b = ap Text (text_same s (soft_value_at e) x y a.1 b.1)
 
+pub link_same : (s : List ℕ) (e : SnodEntry) (f g : Found) → HasText s e.name_at f.name → IsTarget s e f.target → HasText s e.name_at g.name → IsTarget s e g.target → f ≡ g
+link_same s e f g a b c d = (λ j. record { name = text_same s e.name_at f.name g.name a c j; target = target_same s e f.target g.target b d j })
+
 links_same : (s : List ℕ) (es : List SnodEntry) (fs gs : List Found) → AreLinks s es fs → AreLinks s es gs → fs ≡ gs
 links_same s [] [] [] a b = refl
 links_same s [] [] (g ∷ gs) a b = absurd b
@@ -41,9 +44,7 @@ links_same s [] (f ∷ fs) gs a b = absurd a
 links_same s (e ∷ es) [] gs a b = absurd a
 links_same s (e ∷ es) (f ∷ fs) [] a b = absurd b
 links_same s (e ∷ es) (f ∷ fs) (g ∷ gs) a b =
-    let name = text_same s e.name_at f.name g.name a.0 b.0 in
-    let target = target_same s e f.target g.target a.1 b.1 in
-    (λ j. record { name = name j; target = target j } ∷ links_same s es fs gs a.2 b.2 j)
+    (λ j. link_same s e f g a.0 a.1 b.0 b.1 j ∷ links_same s es fs gs a.2 b.2 j)
 
 -- one list of links and one of blocks
 abbrev pub Same : List Found → List Found → List Block → List Block → Type 0

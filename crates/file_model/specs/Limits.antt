@@ -8,6 +8,7 @@ use Rattle.node_codec.specs.Heap.{SpellsHeap}
 use Rattle.node_codec.specs.declared.heap.HeapHead.{HeapHead}
 use Rattle.object_model.specs.Tree.{Group, Leaf, Empty, Link}
 use Rattle.outside.specs.Blocks.{Block, most_blocks}
+use Rattle.file_model.specs.Groups.{Found, Target, Header, Text}
 use Rattle.file_model.specs.Headers.{Part, IsHeader, header_blocks}
 use Rattle.file_model.specs.Holds.{LeafAt, DataLeaf, SoftLeaf, OtherLeaf, Full, FullLinks}
 
@@ -26,6 +27,18 @@ most_header = 1048576
 -- the segment of a local heap, in bytes
 abbrev pub most_segment : ℕ
 most_segment = 16777216
+
+-- the names and the soft links' values of a file, in bytes
+abbrev pub most_texts : ℕ
+most_texts = 268435456
+
+abbrev pub target_bytes : Target → ℕ
+target_bytes (Header at) = 0
+target_bytes (Text text) = length text
+
+-- the bytes of the names and the soft links' values of links
+abbrev pub text_bytes : List Found → ℕ
+text_bytes = sum_by (λ f. length f.name + target_bytes f.target)
 
 -- soft links are no objects
 abbrev pub leaf_objects : LeafAt → ℕ

@@ -1,7 +1,6 @@
 -- Why a group's heap, its B-tree and its symbol table nodes are refused, each after the blocks that were met before.
 -- Cited by what opens a file.
-use Rattle.std.specs.Prelude.{◌≡◌, ◌⊎◌, ℕ, zero, suc, ◌+◌, ◌<◌, false, List, [], ◌∷◌, ◌++◌, map}
-use Rattle.std.specs.List.{Contains}
+use Rattle.std.specs.Prelude.{◌≡◌, ◌⊎◌, ℕ, zero, suc, ◌<◌, List, [], ◌∷◌, ◌++◌, map}
 use Rattle.outside.specs.Array.{Array, bytes_of}
 use Rattle.outside.specs.Blocks.{Block, Bounds, placed}
 use Rattle.h5_base.specs.declared.kinds.BlockKind.TheVariants as kind
@@ -12,9 +11,8 @@ use Rattle.node_codec.specs.Heap.{SpellsHeap}
 use Rattle.node_codec.specs.declared.snod.SnodEntry.{SnodEntry}
 use Rattle.node_codec.specs.declared.group_node.GroupNode.{GroupNode}
 use Rattle.node_codec.specs.declared.heap.HeapHead.{HeapHead}
-use Rattle.object_model.specs.Tree.{Name, name_lt, AreOrdered}
-use Rattle.file_model.specs.Headers.{after}
-use Rattle.file_model.specs.Groups.{Ks, Found, HasText, AreBetween, Under, IsLeaf, IsIndex}
+use Rattle.object_model.specs.Tree.{Name, AreOrdered}
+use Rattle.file_model.specs.Groups.{Ks, Found, HasText, AreLinks, AreBetween, Under, IsLeaf, IsIndex}
 use Rattle.h5_base.specs.declared.refusal.Refusal.{Refusal}
 use Rattle.h5_base.specs.declared.refusal.Refusal.TheVariants.{Malformed, Unsupported}
 use Rattle.outside.specs.Blocks.{IsBlockRefused, IsPlacedRefused}
@@ -28,29 +26,44 @@ RefusedUnder = List Block → ℕ → Refusal → Type 0
 abbrev pub HasNoText : List ℕ → ℕ → Type 0
 HasNoText segment at = (text : List ℕ) → HasText segment at text → ⊥
 
--- The symbol table node is refused: as a block, by an entry whose name or value isn't in the segment, or by two names
--- out of order.
+-- the names of links
+abbrev pub names_of : List Found → List Name
+names_of = map (λ f. f.name)
+
+-- An entry of the symbol table node at an address is refused, behind entries that tell the links `done`. Its name is
+-- looked up first, then the name's order, then a soft link's value.
+pub data IsEntryRefused (segment : List ℕ) (heap node : ℕ) (done : List Found) (x : SnodEntry)
+    (r : Refusal) : Type 0 where
+  NoName : HasNoText segment x.name_at → r ≡ Malformed heap kind.Heap → IsEntryRefused segment heap node done x r
+  Disordered : (name : Name) → HasText segment x.name_at name → ¬ AreOrdered (names_of done ++ name ∷ [])
+      → r ≡ Malformed node kind.Snod
+      → IsEntryRefused segment heap node done x r
+  NoValue : (name : Name) → HasText segment x.name_at name → AreOrdered (names_of done ++ name ∷ []) → x.cache ≡ 2
+      → HasNoText segment (soft_value_at x) → r ≡ Malformed heap kind.Heap
+      → IsEntryRefused segment heap node done x r
+
+-- One of the entries is refused, behind those before it.
+pub record AreEntriesRefused (segment : List ℕ) (heap node : ℕ) (entries : List SnodEntry) (r : Refusal) : Type 0 where
+  pub before : List SnodEntry
+  pub entry : SnodEntry
+  pub later : List SnodEntry
+  pub split : entries ≡ before ++ entry ∷ later
+  pub done : List Found
+  pub links : AreLinks segment before done
+  pub ordered : AreOrdered (names_of done)
+  pub refused : IsEntryRefused segment heap node done entry r
+
+-- The symbol table node is refused: as a block, since its bytes spell none, or by an entry.
 pub data IsLeafRefused (b : Array) (e : Bounds) (ks : Ks) (segment : List ℕ) (heap : ℕ) (met : List Block) (at : ℕ)
     (r : Refusal) : Type 0 where
   LeafBlock : IsBlockRefused e met (record { start = at; len = snod_len ks.leaf }) kind.Snod r
       → IsLeafRefused b e ks segment heap met at r
-  NoLeaf : ((entries : List SnodEntry) → SpellsSnod ks.leaf entries (bytes_of b at (snod_len ks.leaf)) → ⊥)
+  NoLeaf : ((entries : List SnodEntry) → ¬ SpellsSnod ks.leaf entries (bytes_of b at (snod_len ks.leaf)))
       → r ≡ Malformed at kind.Snod
       → IsLeafRefused b e ks segment heap met at r
-  NoName : (entries : List SnodEntry) (x : SnodEntry) → SpellsSnod ks.leaf entries (bytes_of b at (snod_len ks.leaf))
-      → Contains entries x
-      → HasNoText segment x.name_at → r ≡ Malformed heap kind.Heap → IsLeafRefused b e ks segment heap met at r
-  NoValue : (entries : List SnodEntry) (x : SnodEntry) → SpellsSnod ks.leaf entries (bytes_of b at (snod_len ks.leaf))
-      → Contains entries x → x.cache ≡ 2
-      → HasNoText segment (soft_value_at x) → r ≡ Malformed heap kind.Heap → IsLeafRefused b e ks segment heap met at r
-  NamesDisordered : (before later : List SnodEntry) (x y : SnodEntry) (m n : Name)
-      → SpellsSnod ks.leaf (before ++ x ∷ y ∷ later) (bytes_of b at (snod_len ks.leaf))
-      → HasText segment x.name_at m → HasText segment y.name_at n → name_lt m n ≡ false → r ≡ Malformed at kind.Snod
+  InEntries : (entries : List SnodEntry) → SpellsSnod ks.leaf entries (bytes_of b at (snod_len ks.leaf))
+      → AreEntriesRefused segment heap at entries r
       → IsLeafRefused b e ks segment heap met at r
-
--- the names of links
-abbrev pub names_of : List Found → List Name
-names_of = map (λ f. f.name)
 
 -- The keys on both sides of a child that was read are refused, for the links under it, and those under the children
 -- before it: a key's text isn't in the segment, a name isn't between the keys, or the names don't ascend.

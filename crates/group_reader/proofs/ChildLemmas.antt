@@ -1,5 +1,5 @@
 -- The children of a node, read one by one from left to right.
-use Rattle.std.proofs.Common.{ℕ, List, [], ◌∷◌, ◌++◌, refl, sym, subst, inl, inr}
+use Rattle.std.proofs.Common.{ℕ, Bool, IsTrue, List, [], ◌∷◌, ◌++◌, refl, sym, subst, inl, inr}
 use Rattle.std.proofs.lemmas.List.{append_assoc, append-nil}
 use Rattle.outside.specs.Blocks.{Block, Bounds}
 use Rattle.outside.specs.Space.{SpaceView}
@@ -48,6 +48,6 @@ first_all s heap node Child Refused keys children ks done met own first =
     (subst (λ (x : List Block). AreChildren s Child keys children (done ++ []) x) (append-nil own) (first.more [] [] (refl, refl)))
 
 -- the blocks of the children that were read were taken after those that were met before
-abbrev pub TakesFirst : {V : Type 0} → (V → SpaceView) → (old new : Blocks V) → List ℕ → (heap node : ℕ) → Under → (Bounds → RefusedUnder) → (keys children ks cs : List ℕ) → List Found → Type 0
-TakesFirst view old new s heap node Child Refused keys children ks cs done =
-    (met : List Block) → Keeps view old met → (own : List Block) × AreFirst s heap node Child Refused keys children ks cs done met own × Keeps view new (met ++ own)
+abbrev pub TakesFirst : {V : Type 0} → Bool → (V → SpaceView) → (old new : Blocks V) → List ℕ → (heap node : ℕ) → Under → (Bounds → RefusedUnder) → (keys children ks cs : List ℕ) → List Found → Type 0
+TakesFirst tells view old new s heap node Child Refused keys children ks cs done =
+    (met : List Block) → Keeps view old met → (own : List Block) × (IsTrue tells → AreFirst s heap node Child Refused keys children ks cs done met own) × Keeps view new (met ++ own)

@@ -6,3 +6,4 @@ pub mod LeafLemmas
 pub mod NameLemmas
 pub mod NodeLemmas
 pub mod TableLemmas
+pub mod Told

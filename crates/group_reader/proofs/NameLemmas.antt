@@ -1,9 +1,10 @@
 -- Names that ascend, by the first and the last of them.
 use Rattle.std.proofs.Common.{◌≡◌, ℕ, ◌-◌, suc, Bool, true, false, not, IsTrue, List, [], ◌∷◌, ◌++◌, length, Some, None, refl, sym, ◌∙◌, ap, subst, arith}
 use Rattle.std.specs.List.{slice_get}
+use Rattle.std.proofs.lemmas.List.{map-append}
 use Rattle.object_model.specs.Tree.{Name, name_lt, AreOrdered}
 use Rattle.object_model.proofs.OrderLemmas.{lt_trans}
-use Rattle.file_model.specs.Groups.{Found, AreBetween}
+use Rattle.file_model.specs.Groups.{Found, Header, AreBetween}
 use Rattle.file_model.specs.RefusedGroups.{names_of}
 use Rattle.group_reader.specs.declared.link.FoundLink.{FoundLink}
 use Rattle.group_reader.specs.Links.{found_of, links_of}
@@ -39,6 +40,12 @@ both_ascend (z ∷ xs) x g gs r last is o p =
     let e : last_of (found_of z) (links_of xs) ≡ found_of x = last_is z xs x last in
     let same : r ≡ name_lt (last_of (found_of z) (links_of xs)).name g.name = is ∙ ap (λ (f : Found). name_lt f.name g.name) (sym e) in
     (λ yes. join (found_of z) (links_of xs) g gs o p (sym same ∙ yes), λ all. same ∙ joined (found_of z) (links_of xs) g gs all)
+
+pub name_ascends : (xs : List FoundLink) (x : FoundLink) (n : Name) (r : Bool) → slice_get xs (length xs - 1) ≡ Some x → r ≡ name_lt x.name n → AreOrdered (names_of (links_of xs))
+    → IsAnswer r (AreOrdered (names_of (links_of xs) ++ n ∷ []))
+name_ascends xs x n r last is o =
+    let g : Found = record { name = n; target = Header 0 } in
+    subst (λ (l : List Name). IsAnswer r (AreOrdered l)) (map-append (λ (f : Found). f.name) (links_of xs) (g ∷ [])) (both_ascend xs x g [] r last is o (tt, tt))
 
 pub first_is : (xs : List FoundLink) (x : FoundLink) → slice_get xs 0 ≡ Some x → (rest : List FoundLink) × (xs ≡ x ∷ rest)
 first_is [] x h = let none : None ≡ Some x = h in cc

@@ -1,44 +1,23 @@
--- What stands in the nodes of a group's B-tree, and what the reading of one leaves: links, and blocks in the catalogue.
+-- What stands in the nodes of a group's B-tree, and which blocks the reading of one takes.
 -- Cited by each function that reads nodes.
-use Rattle.std.specs.Prelude.{◌≡◌, ◌⊎◌, ℕ, zero, suc, List, ◌++◌, Option, IfSome}
+use Rattle.std.specs.Prelude.{◌≡◌, ◌⊎◌, ℕ, zero, suc, List, ◌++◌}
 use Rattle.outside.specs.Array.{Array, bytes_of}
-use Rattle.outside.specs.Blocks.{Block, Bounds}
-use Rattle.outside.specs.Space.{SpaceView, bounds_of}
+use Rattle.outside.specs.Blocks.{Block, Bounds, IsBlockRefused}
+use Rattle.outside.specs.Space.{SpaceView}
 use Rattle.h5_base.specs.declared.kinds.BlockKind.TheVariants as kind
+use Rattle.h5_base.specs.declared.refusal.Refusal.{Refusal}
+use Rattle.h5_base.specs.declared.refusal.Refusal.TheVariants.{Malformed}
 use Rattle.node_codec.specs.GroupNodes.{SpellsGroupNode, group_node_len}
 use Rattle.node_codec.specs.declared.group_node.GroupNode.{GroupNode}
-use Rattle.block_space.specs.Blocks.{Keeps, space_of}
+use Rattle.block_space.specs.Blocks.{Keeps}
 use Rattle.block_space.specs.declared.blocks.Blocks.{Blocks}
 use Rattle.object_model.specs.Tree.{Name, AreOrdered}
 use Rattle.file_model.specs.Groups.{Ks, Found, HasText, AreBetween, Under, IsLeaf, IsIndex}
-use Rattle.h5_base.specs.declared.refusal.Refusal.{Refusal}
-use Rattle.h5_base.specs.declared.refusal.Refusal.TheVariants.{Malformed}
-use Rattle.outside.specs.Blocks.{IsBlockRefused}
 use Rattle.file_model.specs.RefusedGroups.{RefusedUnder, names_of, IsLeafRefused, IsIndexRefused}
-use Rattle.block_reader.specs.declared.stop.TreeStop.{TreeStop}
-use Rattle.h5_base.specs.Refusals.{refusal_of}
 
--- the bytes of the space
-abbrev pub array_of : {V : Type 0} → (V → SpaceView) → Blocks V → Array
-array_of view blocks = (view (space_of blocks)).array
-
--- the K values of a file; that of chunks is any, since no group has chunks
-abbrev pub ks_of : (leaf internal chunk : ℕ) → Ks
-ks_of leaf internal chunk = record { leaf = leaf; internal = internal; chunk = chunk }
-
--- The blocks of a part were taken into the catalogue, after those that were met before.
-abbrev pub Takes : {V : Type 0} → (V → SpaceView) → (old new : Blocks V) → (List Block → Type 0) → Type 0
-Takes view old new Part = (met : List Block) → Keeps view old met → (bs : List Block) × Part bs
-    × Keeps view new (met ++ bs)
-
--- A stop is one of these refusals, after the blocks that were met before, or none of a file.
-abbrev pub Refuses : {V : Type 0} → (V → SpaceView) → Blocks V → (Bounds → List Block → Refusal → Type 0) → TreeStop
-    → Type 0
-Refuses view old IsRefused stop =
-    (met : List Block) (own : Option (List ℕ)) → Keeps view old met
-    → IfSome (refusal_of stop) (IsRefused (bounds_of (view (space_of old)) own) met)
-
--- ---- nodes
+-- just these blocks were taken into the catalogue, after those that were met before
+abbrev pub TakesJust : {V : Type 0} → (V → SpaceView) → (old new : Blocks V) → List Block → Type 0
+TakesJust view old new bs = (met : List Block) → Keeps view old met → Keeps view new (met ++ bs)
 
 -- what stands under a node of this level: symbol table nodes under level 0
 abbrev pub IsBelow : Array → Ks → List ℕ → ℕ → Under
@@ -60,7 +39,7 @@ IsNodeAt b k at node = SpellsGroupNode k node (bytes_of b at (group_node_len k))
 -- a node is refused whatever its level and its children: as a block, or since its bytes spell none
 abbrev pub IsHeadRefused : Array → Bounds → (k : ℕ) → List Block → (at : ℕ) → Refusal → Type 0
 IsHeadRefused b e k met at r = IsBlockRefused e met (node_block k at) kind.Tree r
-    ⊎ (((n : GroupNode) → IsNodeAt b k at n → ⊥) × (r ≡ Malformed at kind.Tree))
+    ⊎ (((n : GroupNode) → ¬ IsNodeAt b k at n) × (r ≡ Malformed at kind.Tree))
 
 -- The links under a child lie between the keys at both sides of it, and come after those under the children before it.
 pub record FitKeys (segment : List ℕ) (k l : ℕ) (done here : List Found) : Type 0 where
@@ -70,10 +49,3 @@ pub record FitKeys (segment : List ℕ) (k l : ℕ) (done here : List Found) : T
   pub at_high : HasText segment l high
   pub between : AreBetween low high here
   pub ordered : AreOrdered (names_of (done ++ here))
-
--- All under a root node of some level, with the names in order.
-pub record AreIndexed (b : Array) (ks : Ks) (segment : List ℕ) (tree : ℕ) (fs : List Found)
-    (bs : List Block) : Type 0 where
-  pub level : ℕ
-  pub index : IsIndex b ks segment level tree fs bs
-  pub ordered : AreOrdered (names_of fs)

@@ -1,132 +1,125 @@
-ghost use Rattle.std.specs.Prelude.{◌≡◌, ◌≤◌, ◌++◌, ◌∷◌, ◌↔◌, [], IsTrue, All, IfOk, IfErr, IfSome, OnOk, IsErrOf};
-ghost use Rattle.std.specs.Prelude.{length};
-ghost use Rattle.node_codec.specs.Snod.{IsCache};
-ghost use Rattle.file_model.specs.Groups.{HasText, IsTarget, AreLinks};
-ghost use Rattle.file_model.specs.RefusedGroups.{names_of};
-ghost use Rattle.object_model.specs.Tree.{AreOrdered};
+ghost use Rattle.std.specs.Prelude.{◌≡◌, ◌+◌, ◌≤◌, ◌++◌, ◌∷◌, ◌↔◌, [], IsTrue, All, IfOk, IfErr, IfSome, OnOk, IsErrOf};
+ghost use Rattle.std.specs.Prelude.{length, drop};
 ghost use Rattle.h5_base.specs.Refusals.{refusal_of};
-ghost use Rattle.group_reader.specs.Links.{target_of, found_of, links_of, IsLink, Adds};
-ghost use Rattle.group_reader.specs.Entries.{IsTextRefused, IsValueRefused, IsEntryRefused, AreEntriesRefused};
+ghost use Rattle.h5_base.specs.declared.refusal.Refusal.TheVariants.{Malformed};
+ghost use Rattle.node_codec.specs.Snod.{IsCache, soft_value_at};
+ghost use Rattle.object_model.specs.Tree.{AreOrdered};
+ghost use Rattle.file_model.specs.Groups.{IsTarget, AreLinks};
+ghost use Rattle.file_model.specs.Limits.{target_bytes};
+ghost use Rattle.file_model.specs.RefusedGroups.{names_of, HasNoText, IsEntryRefused, AreEntriesRefused};
+ghost use Rattle.group_reader.specs.Links.{target_of, links_of, IsTold, Adds};
 
+use crate::budget::TextBudget;
+use crate::gathered::Gathered;
 use crate::link::{FoundLink, LinkTarget};
 use crate::names::comes_before;
+use crate::table::Table;
 use crate::text::text_at;
-use block_reader::TreeStop;
-use h5_base::{BlockKind, Bytes, LinkName};
+use h5_base::{BlockKind, Bytes, LinkName, Stop};
 use node_codec::SnodEntry;
 use std::alloc::Global;
 
-/// A copy of the text at an offset of the segment of the heap at an address.
-pub(crate) fn copy_text(
-    alloc: Global,
-    heap_at: u64,
-    segment: &[u8],
-    at: u64,
-) -> Result<Bytes, TreeStop>
-    ensures found { IfOk result (λ text. HasText segment.now at text) }
-    ensures refused { IfErr result (λ stop. IfSome (refusal_of stop) (IsTextRefused segment.now heap_at at)) }
-    ensures no_fault { IsErrOf result TreeStop.Failed → ⊥ }
+/// A copy of a text, which is taken from the budget before.
+fn keep_text(alloc: Global, text: &[u8], texts: &mut TextBudget) -> Result<Bytes, Stop>
+    ensures copied { IfOk result (λ kept. kept ≡ text.now) }
+    ensures spent { OnOk result (length text.now + texts.new.left ≡ texts.old.left) }
+    ensures memory { IfErr result (λ stop. stop ≡ Stop.NoMemory) }
 {
-    match text_at(segment, at) {
-        Some(text) => match Bytes::from_slice(alloc, text) {
-            Ok(bytes) => Ok(bytes),
-            Err(_) => Err(TreeStop::NoMemory),
-        },
-        None => Err(TreeStop::Malformed {
-            at: heap_at,
-            kind: BlockKind::Heap,
-        }),
+    texts.take(text.len())?;
+    match Bytes::from_slice(alloc, text) {
+        Ok(kept) => Ok(kept),
+        Err(_) => Err(Stop::NoMemory),
     }
 }
 
 /// What an entry leads to.
 fn read_target(
     alloc: Global,
-    heap_at: u64,
-    segment: &[u8],
+    table: &Table<'_>,
     entry: &SnodEntry,
-) -> Result<LinkTarget, TreeStop>
+    texts: &mut TextBudget,
+) -> Result<LinkTarget, Stop>
     requires { IsCache entry.now }
-    ensures found { IfOk result (λ target. IsTarget segment.now entry.now (target_of target)) }
-    ensures refused { IfErr result (λ stop. IfSome (refusal_of stop) (IsValueRefused segment.now heap_at entry.now)) }
-    ensures no_fault { IsErrOf result TreeStop.Failed → ⊥ }
+    ensures found { IfOk result (λ target. IsTarget table.now.segment.now entry.now (target_of target)) }
+    ensures spent { IfOk result (λ target. target_bytes (target_of target) + texts.new.left ≡ texts.old.left) }
+    ensures refused { IfErr result (λ stop. IfSome (refusal_of stop)
+        (λ r. (entry.now.cache ≡ 2) × HasNoText table.now.segment.now (soft_value_at entry.now)
+        × (r ≡ Malformed table.now.heap_at BlockKind.Heap))) }
+    ensures no_fault { ¬ IsErrOf result Stop.Failed }
 {
     if entry.cache < 2 {
         return Ok(LinkTarget::Object {
             header_at: entry.header_at,
         });
     }
-    match copy_text(alloc, heap_at, segment, entry.soft_value_at() as u64) {
-        Ok(text) => Ok(LinkTarget::Soft { text }),
-        Err(stop) => Err(stop),
-    }
-}
-
-/// The link that an entry tells.
-fn read_link(
-    alloc: Global,
-    heap_at: u64,
-    segment: &[u8],
-    entry: &SnodEntry,
-) -> Result<FoundLink, TreeStop>
-    requires { IsCache entry.now }
-    ensures found { IfOk result (λ link. IsLink segment.now entry.now (found_of link)) }
-    ensures refused { IfErr result (λ stop. IfSome (refusal_of stop) (IsEntryRefused segment.now heap_at entry.now)) }
-    ensures no_fault { IsErrOf result TreeStop.Failed → ⊥ }
-{
-    let name = match copy_text(alloc, heap_at, segment, entry.name_at) {
-        Ok(bytes) => LinkName::from_bytes(bytes),
-        Err(stop) => return Err(stop),
+    let Some(text) = text_at(table.segment, entry.soft_value_at() as u64) else {
+        return Err(Stop::malformed(table.heap_at, BlockKind::Heap));
     };
-    match read_target(alloc, heap_at, segment, entry) {
-        Ok(target) => Ok(FoundLink { name, target }),
-        Err(stop) => Err(stop),
-    }
+    let text = keep_text(alloc, text, texts)?;
+    Ok(LinkTarget::Soft { text })
 }
 
-/// Whether the link's name comes after the last one's.
-fn comes_last(links: &[FoundLink], link: &FoundLink) -> bool
+/// Whether the name comes after the last link's.
+fn comes_last(links: &[FoundLink], name: &[u8]) -> bool
     ensures { AreOrdered (names_of (links_of links.now))
-        → IsTrue result ↔ AreOrdered (names_of (links_of links.now ++ found_of link.now ∷ [])) }
+        → IsTrue result ↔ AreOrdered (names_of (links_of links.now) ++ name.now ∷ []) }
 {
     match links.last() {
-        Some(last) => comes_before(last.name.as_slice(), link.name.as_slice()),
+        Some(last) => comes_before(last.name.as_slice(), name),
         None => true,
     }
 }
 
-/// Pushes the links that the entries of a symbol table node tell.
+/// Keeps the link that an entry of the symbol table node at `node_at` tells; the links from `begin` on are those that
+/// the entries before it tell. Of the entry the name is read first, then its order is judged, then a soft link's value
+/// is read, and nothing is copied before.
+fn push_entry(
+    alloc: Global,
+    table: &Table<'_>,
+    node_at: u64,
+    entry: &SnodEntry,
+    begin: usize,
+    gathered: &mut Gathered,
+) -> Result<(), Stop>
+    requires cache { IsCache entry.now }
+    requires begun { begin ≤ length gathered.old.links.items }
+    requires ordered { AreOrdered (names_of (links_of (drop begin gathered.old.links.items))) }
+    ensures adds { OnOk result (Adds gathered.old gathered.new
+        (IsTold table.now.segment.now (links_of (drop begin gathered.old.links.items)) entry.now)) }
+    ensures refused { IfErr result (λ stop. IfSome (refusal_of stop)
+        (IsEntryRefused table.now.segment.now table.now.heap_at node_at
+        (links_of (drop begin gathered.old.links.items)) entry.now)) }
+    ensures no_fault { ¬ IsErrOf result Stop.Failed }
+{
+    let Some(name) = text_at(table.segment, entry.name_at) else {
+        return Err(Stop::malformed(table.heap_at, BlockKind::Heap));
+    };
+    if !comes_last(&gathered.links[begin..], name) {
+        return Err(Stop::malformed(node_at, BlockKind::Snod));
+    }
+    let target = read_target(alloc, table, entry, &mut gathered.texts)?;
+    let name = LinkName::from_bytes(keep_text(alloc, name, &mut gathered.texts)?);
+    gathered.links.push(FoundLink { name, target })?;
+    Ok(())
+}
+
+/// Keeps the links that the entries of the symbol table node at `node_at` tell.
 pub(crate) fn push_entries(
     alloc: Global,
-    heap_at: u64,
-    segment: &[u8],
+    table: &Table<'_>,
     node_at: u64,
     entries: &[SnodEntry],
-    links: &mut Vec<FoundLink>,
-) -> Result<(), TreeStop>
+    gathered: &mut Gathered,
+) -> Result<(), Stop>
     requires { All IsCache entries.now }
-    ensures found { OnOk result (Adds links.old.items links.new.items (AreLinks segment.now entries.now)) }
+    ensures adds { OnOk result (Adds gathered.old gathered.new (AreLinks table.now.segment.now entries.now)) }
     ensures refused { IfErr result (λ stop. IfSome (refusal_of stop)
-        (AreEntriesRefused segment.now heap_at node_at entries.now)) }
-    ensures grows { OnOk result (length links.old.items ≤ length links.new.items) }
-    ensures no_fault { IsErrOf result TreeStop.Failed → ⊥ }
+        (AreEntriesRefused table.now.segment.now table.now.heap_at node_at entries.now)) }
+    ensures no_fault { ¬ IsErrOf result Stop.Failed }
 {
-    let begin = links.len();
+    let begin = gathered.links.len();
     for entry in entries {
-        let link = match read_link(alloc, heap_at, segment, entry) {
-            Ok(link) => link,
-            Err(stop) => return Err(stop),
-        };
-        if !comes_last(&links[begin..], &link) {
-            return Err(TreeStop::Malformed {
-                at: node_at,
-                kind: BlockKind::Snod,
-            });
-        }
-        match links.push(link) {
-            Ok(()) => {}
-            Err(_) => return Err(TreeStop::NoMemory),
-        }
+        push_entry(alloc, table, node_at, entry, begin, gathered)?;
     }
     Ok(())
 }

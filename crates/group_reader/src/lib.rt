@@ -1,7 +1,9 @@
 //! Reads the links of a group: its local heap, its B-tree and the symbol table nodes under it.
 #![tactic(auto)]
 
+mod budget;
 mod entries;
+mod gathered;
 mod heap;
 mod index;
 mod keys;
@@ -13,5 +15,6 @@ mod node;
 mod table;
 mod text;
 
+pub use budget::TextBudget;
 pub use link::{FoundLink, LinkTarget};
 pub use links::read_links;

@@ -160,8 +160,8 @@ opened_as : {V : Type 0} (view : V → SpaceView) (new : Blocks V) (b : Array) (
     → OpenedWhole view new b e kept
 opened_as view new b e kept s g ls t is full within keeps shown same =
     let (held, small, all) = subst (λ (x : Superblock). (f : HoldsFull b e x g ls)
-        × IsWithinLimits b (all_blocks x f.driver (Group g ls)) (Group g ls)
-        × Keeps view new (all_blocks x f.driver (Group g ls))) (sym is) (full, within, keeps) in
+    × IsWithinLimits b (all_blocks x f.driver (Group g ls)) (Group g ls)
+    × Keeps view new (all_blocks x f.driver (Group g ls))) (sym is) (full, within, keeps) in
     (record { root = g; links = ls; full = held; within = small; tree = t; shown = shown; same = same }, all)
 
 -- what was read below the root
@@ -184,7 +184,7 @@ root_opened view old mid new v b s header tree heap kept kls same now spelled ta
     let group : IsGroup v.array (ks_of s) g (founds ls) =
     record { prefix = found.0; parts = found.1; header = found.2; table = found.3.1; index = index; links = links; blocks = ap (λ (l : List Block). l ++ index) found.4 } in
     let every = subst (Keeps view new)
-        (ap (λ (l : List Block). super_block s ∷ l) (sym (append_assoc bs index (blocks_in ls)))) all in
+    (ap (λ (l : List Block). super_block s ∷ l) (sym (append_assoc bs index (blocks_in ls)))) all in
     let full : HoldsFull v.array (bounds_of v None) s g ls =
     record { super = spelled; driver = []; driver_is = refl; root = refl; held = (group, opened.held); kept = here (super_block s ∷ ((bs ++ index) ++ blocks_in ls)) every } in
     let counted = counts_same kls ls opened.same in
@@ -332,6 +332,6 @@ all_refused view old mid v w s n tree heap (Err stop) same spelled taken table f
     let (header, is) = group_node n tree heap table in
     let (bs, found, keeps) = subst (RootFound view old mid v.array s.root.header_at) is first (super_block s ∷ []) taken in
     let y = subst (λ (a : SpaceView). IfSome (refusal_of stop)
-        (IsGroupRefused a.array (bounds_of a None) (ks_of s) 32 1 (super_block s ∷ bs) tree heap)) (sym same)
-        (x (super_block s ∷ bs) None keeps) in
+    (IsGroupRefused a.array (bounds_of a None) (ks_of s) 32 1 (super_block s ∷ bs) tree heap)) (sym same)
+    (x (super_block s ∷ bs) None keeps) in
     root_below_refused v.array (bounds_of v None) s header tree heap bs stop spelled refl found y

@@ -1,27 +1,39 @@
-use Rattle.std.proofs.Common.{◌≡◌, length, arith}
+use Rattle.std.proofs.Common.{◌≡◌, ◌≤◌, List, IfSome, length, sym, subst, arith}
+use Rattle.file_model.specs.Groups.{Found}
+use Rattle.file_model.specs.RefusedGroups.{names_of, AreEntriesRefused}
 use Rattle.h5_base.specs.Refusals.{refusal_of}
-use Rattle.group_reader.specs.Links.{found_of}
-use Rattle.group_reader.proofs.EntryLemmas.{one_entry, disordered, after_added, add_entry}
+use Rattle.object_model.specs.Tree.{AreOrdered}
+use Rattle.group_reader.proofs.EntryLemmas.{adds_none, adds_grows, done_is, add_entry, one_entry}
+use Rattle.group_reader.proofs.Told.{passed}
 use Rattle.group_reader.proofs.entries.push_entries.Goals as goal
 
-pub returns-in-Err-clause-refused : goal.returns-in-Err-clause-refused
-returns-in-Err-clause-refused c = one_entry c.args.segment.now c.args.heap_at c.args.node_at c.args.entries.now c.loop-entry.entry-index _ (refusal_of c.in-Err.stop) c.loop-entry-test.true c.in-Err.ensures.refused
+pub loop-entry-init : goal.loop-entry-init
+loop-entry-init c = adds_none c.args.gathered.now tt
 
-pub returns-then-not-comes_last-clause-refused : goal.returns-then-not-comes_last-clause-refused
-returns-then-not-comes_last-clause-refused c =
-    let adds = c.loop-entry.invariant.adds in
-    let begin : c.len-begin.result ≡ length c.args.links.now.items = omega (arith, c.len-begin.ensures, c.args.links.now.ok.0) in
-    let after = after_added c.len-begin.result c.args.links.now.items c.loop-entry.links.items c.deref.result.now (found_of c.in-Ok.link) c.comes_last.result adds begin c.deref.ensures.value c.comes_last.ensures in
-    disordered c.args.segment.now c.args.heap_at c.args.node_at c.args.entries.now c.loop-entry.entry-index _ c.args.links.now.items c.loop-entry.links.items c.in-Ok.link adds c.loop-entry-test.true c.in-Ok.ensures.found
-    (λ all. let yes = after.1 all in let wrong = c.if-not-comes_last.true in cc)
+pub push_entry-requires-clause-begun : goal.push_entry-requires-clause-begun
+push_entry-requires-clause-begun c =
+    let begin : c.len-begin.result ≡ length c.args.gathered.now.links.items = omega (arith, c.len-begin.ensures, c.args.gathered.now.links.ok.0) in
+    let grows = adds_grows c.args.gathered.now c.loop-entry.gathered c.loop-entry.invariant in
+    let le : c.len-begin.result ≤ length c.loop-entry.gathered.links.items = omega (arith, begin, grows) in
+    le
+
+pub push_entry-requires-clause-ordered : goal.push_entry-requires-clause-ordered
+push_entry-requires-clause-ordered c =
+    let begin : c.len-begin.result ≡ length c.args.gathered.now.links.items = omega (arith, c.len-begin.ensures, c.args.gathered.now.links.ok.0) in
+    subst (λ (l : List Found). AreOrdered (names_of l)) (sym (done_is c.len-begin.result c.args.gathered.now c.loop-entry.gathered c.loop-entry.invariant begin)) c.loop-entry.invariant.ordered
+
+pub returns-in_err-push_entry-clause-refused : goal.returns-in_err-push_entry-clause-refused
+returns-in_err-push_entry-clause-refused c =
+    let begin : c.len-begin.result ≡ length c.args.gathered.now.links.items = omega (arith, c.len-begin.ensures, c.args.gathered.now.links.ok.0) in
+    let a = c.loop-entry.invariant in
+    let stop = c.in_err-push_entry.field-0.0 in
+    passed c.from_residual.result stop (λ x. IfSome (refusal_of x) (AreEntriesRefused c.args.table.now.segment.now c.args.table.now.heap_at c.args.node_at c.args.entries.now)) c.from_residual.ensures.1
+    (one_entry c.args.table.now.segment.now c.args.table.now.heap_at c.args.node_at c.args.entries.now c.loop-entry.entry-index _ _ (refusal_of stop) c.args.gathered.now c.loop-entry.gathered a c.loop-entry-test.true
+    (done_is c.len-begin.result c.args.gathered.now c.loop-entry.gathered a begin) c.in_err-push_entry.ensures.refused)
 
 pub loop-entry-preserved : goal.loop-entry-preserved
 loop-entry-preserved c =
-    let adds = c.loop-entry.invariant.adds in
-    let begin : c.len-begin.result ≡ length c.args.links.now.items = omega (arith, c.len-begin.ensures, c.args.links.now.ok.0) in
-    let after = after_added c.len-begin.result c.args.links.now.items c.loop-entry.links.items c.deref.result.now (found_of c.in-Ok.link) c.comes_last.result adds begin c.deref.ensures.value c.comes_last.ensures in
-    record {
-      grows = omega (arith, c.loop-entry.invariant.grows, c.in-Ok-push.ensures.len);
-      adds = add_entry c.args.segment.now c.args.entries.now c.loop-entry.entry-index _ c.args.links.now.items c.loop-entry.links.items c.push.new.self.items c.in-Ok.link adds c.loop-entry-test.true c.in-Ok.ensures.found
-          c.in-Ok-push.ensures.items (after.0 c.if-not-comes_last.false);
-    }
+    let begin : c.len-begin.result ≡ length c.args.gathered.now.links.items = omega (arith, c.len-begin.ensures, c.args.gathered.now.links.ok.0) in
+    let a = c.loop-entry.invariant in
+    add_entry c.args.table.now.segment.now c.args.entries.now c.loop-entry.entry-index _ _ c.args.gathered.now c.loop-entry.gathered _ a c.loop-entry-test.true
+    (done_is c.len-begin.result c.args.gathered.now c.loop-entry.gathered a begin) c.in_ok-push_entry.ensures.adds

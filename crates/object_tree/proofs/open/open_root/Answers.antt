@@ -14,10 +14,10 @@ returns-in-Some-clause-opened g c = λ told spelled.
     let b = (g.V.Space.view (space_of c.args.blocks.now)).array in
     let at = c.args.superblock.root.header_at in
     let first = found_as g.V.Space.view c.args.blocks.now _ b at c.in-Ok-Known.field-0 (header.Known c.in-Ok-Known.node)
-        c.in-Ok-Known.field-0-is (c.in-Ok-Known.ensures.found told) in
+    c.in-Ok-Known.field-0-is (c.in-Ok-Known.ensures.found told) in
     let same = g.met.V.Space.alike _ _ c.in-Ok-Known.ensures.alike in
     let now = sym (g.met.V.Space.alike _ _
-        (g.V.Kept.transitive _ _ _ c.in-Ok-Known.ensures.alike c.open_below.ensures.alike)) in
+    (g.V.Kept.transitive _ _ _ c.in-Ok-Known.ensures.alike c.open_below.ensures.alike)) in
     all_opened g.V.Space.view c.args.blocks.now _ _ (g.V.Space.view (space_of c.args.blocks.now)) _ c.args.superblock
     c.in-Ok-Known.node c.in-Some.table.tree_at c.in-Some.table.heap_at g.V.Space.tells c.open_below.result same now told
     spelled c.requires.taken (sym c.table_of.ensures ∙ c.in-Some.is) first c.open_below.ensures.superblock
@@ -34,7 +34,7 @@ returns-in-Some-clause-refused g c = λ told spelled.
     let b = (g.V.Space.view (space_of c.args.blocks.now)).array in
     let at = c.args.superblock.root.header_at in
     let first = found_as g.V.Space.view c.args.blocks.now _ b at c.in-Ok-Known.field-0 (header.Known c.in-Ok-Known.node)
-        c.in-Ok-Known.field-0-is (c.in-Ok-Known.ensures.found told) in
+    c.in-Ok-Known.field-0-is (c.in-Ok-Known.ensures.found told) in
     let same = g.met.V.Space.alike _ _ c.in-Ok-Known.ensures.alike in
     all_refused g.V.Space.view c.args.blocks.now _ (g.V.Space.view (space_of c.args.blocks.now)) _ c.args.superblock
     c.in-Ok-Known.node c.in-Some.table.tree_at c.in-Some.table.heap_at c.open_below.result same spelled
@@ -52,8 +52,8 @@ pub returns-in-Ok-Known-clause-refused : goal.returns-in-Ok-Known-clause-refused
 returns-in-Ok-Known-clause-refused g c = λ told spelled.
     let b = (g.V.Space.view (space_of c.args.blocks.now)).array in
     let first = found_as g.V.Space.view c.args.blocks.now _ b c.args.superblock.root.header_at c.in-Ok-Known.field-0
-        (header.Known c.in-Ok-Known.node) c.in-Ok-Known.field-0-is (c.in-Ok-Known.ensures.found told)
-        (super_block c.args.superblock ∷ []) c.requires.taken in
+    (header.Known c.in-Ok-Known.node) c.in-Ok-Known.field-0-is (c.in-Ok-Known.ensures.found told)
+    (super_block c.args.superblock ∷ []) c.requires.taken in
     root_kind_refused b (bounds_of (g.V.Space.view (space_of c.args.blocks.now)) None) c.args.superblock
     c.in-Ok-Known.node first.0 spelled (sym c.table_of.ensures ∙ c.in-None.is) first.1
 
@@ -61,8 +61,8 @@ pub returns-in-Ok-Later-clause-refused : goal.returns-in-Ok-Later-clause-refused
 returns-in-Ok-Later-clause-refused g c = λ told spelled.
     let b = (g.V.Space.view (space_of c.args.blocks.now)).array in
     let first = found_as g.V.Space.view c.args.blocks.now _ b c.args.superblock.root.header_at c.in-Ok-Later.field-0
-        header.Later c.in-Ok-Later.field-0-is (c.in-Ok-Later.ensures.found told) (super_block c.args.superblock ∷ [])
-        c.requires.taken in
+    header.Later c.in-Ok-Later.field-0-is (c.in-Ok-Later.ensures.found told) (super_block c.args.superblock ∷ [])
+    c.requires.taken in
     root_later_refused b (bounds_of (g.V.Space.view (space_of c.args.blocks.now)) None) c.args.superblock first.0 spelled
     first.1
 
