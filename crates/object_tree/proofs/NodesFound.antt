@@ -1,5 +1,5 @@
 -- What was found where a header is makes a node.
-use Rattle.std.proofs.Common.{◌≡◌, ℕ, ◌≤◌, false, List, ◌++◌, Option, IfSome, refl, sym, ◌∙◌, ap, subst}
+use Rattle.std.proofs.Common.{◌≡◌, ℕ, ◌≤◌, false, List, ◌++◌, Option, IfSome, Result, Ok, Err, OnOk, refl, sym, ◌∙◌, ap, subst}
 use Rattle.header_codec.specs.declared.types.Prefix.{Prefix}
 use Rattle.std.proofs.lemmas.List.{append_assoc}
 use Rattle.outside.specs.Array.{Array}
@@ -38,6 +38,10 @@ short_of b at p ps h short q qs k =
     let parts = header_same b at p q ps qs h k in
     subst (λ (x : Prefix). header_bytes at x qs ≤ most_header) prefix (subst (λ (l : List Part). header_bytes at p l ≤ most_header) parts short)
 
+pub on_ok_then : {T E : Type 0} (r : Result T E) (P Q : Type 0) → (P → Q) → OnOk r P → OnOk r Q
+on_ok_then (Ok x) P Q f h = f h
+on_ok_then (Err e) P Q f h = tt
+
 -- ---- an object whose header is all
 
 pub later_found : (b : Array) (ks : Ks) (at : ℕ) (bs : List Block) → IsFound b at header.Later bs
@@ -69,7 +73,7 @@ plain_found b ks at (node.Other header) bs none f = (
 -- ---- a dataset, with what is stored of it
 
 -- what the header of a dataset tells
-info_at : (b : Array) (at : ℕ) (n : Node) (bs : List Block) (e : Elements) → HasParts n e
+abbrev pub info_at : (b : Array) (at : ℕ) (n : Node) (bs : List Block) (e : Elements) → HasParts n e
     → IsFound b at (header.Known n) bs → DataInfo
 info_at b at (node.Group header tree heap) bs e parts f = absurd parts
 info_at b at (node.Dataset header shape elem fill layout filtered) bs e parts f = f.3.1

@@ -1,5 +1,5 @@
 -- The superblock and the root of a file, put together with all below it.
-use Rattle.std.proofs.Common.{◌≡◌, ℕ, suc, ◌≤◌, ◌<◌, min, false, Bool, IsTrue, List, [], ◌∷◌, ◌++◌, map, Option, Some, None, Result, Ok, Err, IfOk, IfErr, IfSome, refl, sym, ◌∙◌, ap, subst, arith, inl, inr, lit<}
+use Rattle.std.proofs.Common.{◌≡◌, ℕ, suc, ◌≤◌, ◌<◌, min, true, false, Bool, IsTrue, List, [], ◌∷◌, ◌++◌, map, Option, Some, None, Result, Ok, Err, IfOk, IfErr, IfSome, refl, sym, ◌∙◌, ap, subst, arith, inl, inr, lit<}
 use Rattle.std.specs.List.{Contains}
 use Rattle.std.proofs.lemmas.List.{append_assoc}
 use Rattle.std.proofs.lemmas.List.FromFn.{length-map-range_with_len}
@@ -37,15 +37,17 @@ use Rattle.header_reader.specs.Found.{IsFound}
 use Rattle.header_reader.specs.declared.reading.Header.TheVariants as header
 use Rattle.tree_nodes.specs.declared.node.Node.{Node}
 use Rattle.tree_nodes.specs.declared.node.Node.TheVariants as node
+use Rattle.tree_nodes.specs.declared.node.NodeId.{NodeId}
 use Rattle.tree_nodes.specs.declared.tree.ObjectTree.{ObjectTree}
-use Rattle.tree_nodes.specs.Nodes.{is_group, link_names}
+use Rattle.tree_nodes.specs.Nodes.{bare, is_group, link_names}
 use Rattle.tree_nodes.specs.Entries.{superblock_of, root_of, entry_of, object_count}
 use Rattle.tree_nodes.specs.Shown.{Keyed, KeyedLinks, Shows, AreKept as AreNodesKept, AreKeptBelow, child_links}
 use Rattle.object_tree.specs.Opened.{Matches, IsOpened, file_blocks}
 use Rattle.object_tree.specs.Sound.{HasSoundNodes, IsSoundTree}
-use Rattle.object_tree.specs.Grown.{AreOpened, IsGroupRefused, HasRoot, table_of}
+use Rattle.object_tree.specs.Grown.{Grows, AreOpened, IsGroupRefused, HasRoot, table_of}
 use Rattle.object_tree.proofs.NodesFound.{short_of}
 use Rattle.object_tree.proofs.Objects.{group_node, table_group, group_objects}
+use Rattle.object_tree.proofs.Growth.{not_none}
 use Rattle.object_tree.proofs.SoFar.{counts_same}
 
 -- ---- the superblock
@@ -91,7 +93,7 @@ no_super b e bytes r stop same only is reason =
 -- ---- a root that is no group
 
 pub no_table : (ms : List Met) (at : ℕ) (n : Node) → table_of n ≡ None → MakesNode ms at n → has 0x11 ms ≡ false
-no_table ms at (node.Group header tree heap) none h = absurd cc
+no_table ms at (node.Group head tree heap) none h = absurd cc
 no_table ms at (node.Dataset header shape elem fill layout filtered) none h = h.2.no_table
 no_table ms at (node.Soft text) none h = absurd h
 no_table ms at (node.Other header) none h = h.1.no_table
@@ -114,6 +116,22 @@ mutual
       → AreOrderedBelow ls
   ordered_below kept Empty sound h = tt
   ordered_below kept (Link n t rest) sound h = (ordered_tree kept t sound h.0, ordered_below kept rest sound h.1)
+
+-- a tree of one node, to which these links were added
+pub root_grown : (old new : ObjectTree) (n : Node) (kls : KeyedLinks) (id : NodeId) → id ≡ root_of old
+    → entry_of old (root_of old).key ≡ Some (bare n) → object_count old ≡ 1 → Grows old new id.key kls
+    → HasRoot new n kls
+root_grown old new n kls id is made one grows = record {
+  entry = ap (entry_of new) place ∙ grows.here n (ap (entry_of old) (ap (λ (i : NodeId). i.key) is) ∙ made);
+  below = grows.kept;
+  distinct = grows.distinct;
+  apart = λ has. not_none (bare n) (sym made ∙ ap (entry_of old) (ap (λ (i : NodeId). i.key) (sym is) ∙ sym place)
+      ∙ grows.fresh (root_of new).key has);
+  objects = omega (arith, grows.objects, one);
+}
+  where
+    place : (root_of new).key ≡ id.key
+    place = ap (λ (i : NodeId). i.key) (grows.root ∙ sym is)
 
 -- the tree that is kept from the root on
 abbrev root_tree : ObjectTree → Node → KeyedLinks → Keyed
@@ -172,13 +190,13 @@ BelowRoot view mid new b ks tree heap kls = (met : List Block) → Keeps view mi
     × Keeps view new (met ++ (index ++ blocks_in ls))
 
 root_opened : {V : Type 0} (view : V → SpaceView) (old mid new : Blocks V) (v : SpaceView) (b : Array) (s : Superblock)
-    (header tree heap : ℕ) (kept : ObjectTree) (kls : KeyedLinks) → v.array ≡ b → view new.space ≡ v
+    (head tree heap : ℕ) (kept : ObjectTree) (kls : KeyedLinks) → v.array ≡ b → view new.space ≡ v
     → Spells s (super_bytes_of v.array (bounds_of v None)) → Keeps view old (super_block s ∷ [])
-    → Takes view old mid (IsFound v.array s.root.header_at (header.Known (node.Group header tree heap)))
-    → superblock_of kept ≡ s → object_count kept ≤ 65536 → HasRoot kept (node.Group header tree heap) kls
+    → Takes view old mid (IsFound v.array s.root.header_at (header.Known (node.Group head tree heap)))
+    → superblock_of kept ≡ s → object_count kept ≤ 65536 → HasRoot kept (node.Group head tree heap) kls
     → HasSoundNodes kept → BelowRoot view mid new b (ks_of s) tree heap kls
     → OpenedWhole view new v.array (bounds_of v None) kept
-root_opened view old mid new v b s header tree heap kept kls same now spelled taken first is few root sound rest =
+root_opened view old mid new v b s head tree heap kept kls same now spelled taken first is few root sound rest =
     let (index, ls, links, small, opened, all) = below (super_block s ∷ bs) keeps in
     let g : GroupAt = record { header_at = at; tree_at = tree; heap_at = heap; own = bs ++ index } in
     let group : IsGroup v.array (ks_of s) g (founds ls) =
@@ -195,8 +213,8 @@ root_opened view old mid new v b s header tree heap kept kls same now spelled ta
       block_count = every.few;
       parts = (short_of v.array at found.0 found.1 found.2 found.5, small, opened.fit);
     } in
-    opened_as view new v.array (bounds_of v None) kept s g ls (root_tree kept (node.Group header tree heap) kls) is full
-    within every (root_shown kept (node.Group header tree heap) kls refl root sound) ((found.3.0, refl, refl), opened.same)
+    opened_as view new v.array (bounds_of v None) kept s g ls (root_tree kept (node.Group head tree heap) kls) is full
+    within every (root_shown kept (node.Group head tree heap) kls refl root sound) ((found.3.0, refl, refl), opened.same)
   where
     at : ℕ
     at = s.root.header_at
@@ -204,7 +222,7 @@ root_opened view old mid new v b s header tree heap kept kls same now spelled ta
     bs : List Block
     bs = (first (super_block s ∷ []) taken).0
 
-    found : IsFound v.array at (header.Known (node.Group header tree heap)) bs
+    found : IsFound v.array at (header.Known (node.Group head tree heap)) bs
     found = (first (super_block s ∷ []) taken).1
 
     keeps : Keeps view mid (super_block s ∷ bs)
@@ -226,9 +244,9 @@ pub root_header_refused : (b : Array) (e : Bounds) (s : Superblock) (stop : Stop
 root_header_refused b e s stop spelled own x =
     if_some (refusal_of stop) (IsHeaderRefused b e (super_block s ∷ []) s.root.header_at) (IsFileRefused b e) (λ r y. root_refused b e s r spelled own (InHeader y)) x
 
-root_below_refused : (b : Array) (e : Bounds) (s : Superblock) (header tree heap : ℕ) (bs : List Block) (stop : Stop) → Spells s (super_bytes_of b e) → e.own ≡ None
-    → (f : IsFound b s.root.header_at (header.Known (node.Group header tree heap)) bs) → IfSome (refusal_of stop) (IsGroupRefused b e (ks_of s) 32 1 (super_block s ∷ bs) tree heap) → IfSome (refusal_of stop) (IsFileRefused b e)
-root_below_refused b e s header tree heap bs stop spelled own f x =
+root_below_refused : (b : Array) (e : Bounds) (s : Superblock) (head tree heap : ℕ) (bs : List Block) (stop : Stop) → Spells s (super_bytes_of b e) → e.own ≡ None
+    → (f : IsFound b s.root.header_at (header.Known (node.Group head tree heap)) bs) → IfSome (refusal_of stop) (IsGroupRefused b e (ks_of s) 32 1 (super_block s ∷ bs) tree heap) → IfSome (refusal_of stop) (IsFileRefused b e)
+root_below_refused b e s head tree heap bs stop spelled own f x =
     if_some (refusal_of stop) (IsGroupRefused b e (ks_of s) 32 1 (super_block s ∷ bs) tree heap) (IsFileRefused b e) (λ r y. root_refused b e s r spelled own (go r y)) x
   where
     go : (r : Refusal) → IsGroupRefused b e (ks_of s) 32 1 (super_block s ∷ bs) tree heap r → IsRefusedWith (IsObjectRefused b e (ks_of s) 32) b e (ks_of s) 0 (super_block s ∷ []) s.root.header_at r
@@ -302,13 +320,13 @@ pub all_opened : {V : Type 0} (view : V → SpaceView) (old mid new : Blocks V) 
     → IfOk r (λ kept. superblock_of kept ≡ s) → IfOk r (λ kept. object_count kept ≤ 65536) → IfOk r HasSoundNodes
     → IfOk r (BelowTold view mid new w.array (ks_of s) tree heap told n)
     → IfOk r (OpenedWhole view new v.array (bounds_of v None))
-all_opened view old mid new v w s n tree heap told (Ok kept) same now yes spelled taken table first super few sound below =
-    let (header, is) = group_node n tree heap table in
+all_opened view old mid new v w s n tree heap told (Ok kept) same now told_it spelled taken table first super few sound below =
+    let (head, is) = group_node n tree heap table in
     let first' = subst (RootFound view old mid v.array s.root.header_at) is first in
     let below' = subst (λ (x : Node). BelowTold view mid new w.array (ks_of s) tree heap told x kept) is below in
-    root_opened view old mid new v w.array s header tree heap kept below'.0 (ap (λ (a : SpaceView). a.array) same) now
-    spelled taken first' super few below'.1 sound (below'.2 yes)
-all_opened view old mid new v w s n tree heap told (Err stop) same now yes spelled taken table first super few sound below =
+    root_opened view old mid new v w.array s head tree heap kept below'.0 (ap (λ (a : SpaceView). a.array) same) now
+    spelled taken first' super few below'.1 sound (below'.2 told_it)
+all_opened view old mid new v w s n tree heap told (Err stop) same now told_it spelled taken table first super few sound below =
     tt
 
 pub all_sound : {V : Type 0} (view : V → SpaceView) (mid new : Blocks V) (b : Array) (ks : Ks) (s : Superblock)
@@ -329,9 +347,9 @@ pub all_refused : {V T : Type 0} (view : V → SpaceView) (old mid : Blocks V) (
     → IfErr r (λ stop. IfSome (refusal_of stop) (IsFileRefused v.array (bounds_of v None)))
 all_refused view old mid v w s n tree heap (Ok kept) same spelled taken table first x = tt
 all_refused view old mid v w s n tree heap (Err stop) same spelled taken table first x =
-    let (header, is) = group_node n tree heap table in
+    let (head, is) = group_node n tree heap table in
     let (bs, found, keeps) = subst (RootFound view old mid v.array s.root.header_at) is first (super_block s ∷ []) taken in
     let y = subst (λ (a : SpaceView). IfSome (refusal_of stop)
     (IsGroupRefused a.array (bounds_of a None) (ks_of s) 32 1 (super_block s ∷ bs) tree heap)) (sym same)
     (x (super_block s ∷ bs) None keeps) in
-    root_below_refused v.array (bounds_of v None) s header tree heap bs stop spelled refl found y
+    root_below_refused v.array (bounds_of v None) s head tree heap bs stop spelled refl found y

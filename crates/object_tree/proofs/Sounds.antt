@@ -11,7 +11,8 @@ use Rattle.tree_nodes.specs.declared.tree.ObjectTree.{ObjectTree}
 use Rattle.tree_nodes.specs.Nodes.{Kept, bare, child_link, link_names, find_link, insert_link}
 use Rattle.tree_nodes.specs.Entries.{entry_of, root_of, Has, LacksLink, Inserts}
 use Rattle.object_tree.specs.Grown.{LinksAscend}
-use Rattle.object_tree.specs.Sound.{IsSoundNode, LeadToNodes, IsSoundEntry, HasSoundNodes}
+use Rattle.header_reader.specs.Told.{IsSoundNode}
+use Rattle.object_tree.specs.Sound.{LeadToNodes, IsSoundEntry, HasSoundNodes}
 use Rattle.object_tree.proofs.Growth.{some_is, not_none}
 
 -- ---- lists of links

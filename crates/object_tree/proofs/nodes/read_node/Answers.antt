@@ -13,13 +13,13 @@ returns-in-Ok-Later-clause-found g c = λ told met keeps.
     c.in-Ok-Later.field-0-is (c.in-Ok-Later.ensures.found told) met keeps in
     (f.0, later_found b c.args.ks c.args.at f.0 f.1, f.2)
 
-pub returns-in-Ok-Known-clause-found : goal.returns-in-Ok-Known-clause-found
-returns-in-Ok-Known-clause-found g c = λ told.
+pub returns-in-Ok-clause-found : goal.returns-in-Ok-clause-found
+returns-in-Ok-clause-found g c = λ told.
     let same = ap (λ (v : SpaceView). v.array) (g.met.V.Space.alike _ _ c.in-Ok-Known.ensures.alike) in
     let first = found_as g.V.Space.view c.args.blocks.now _ _ c.args.at c.in-Ok-Known.field-0
     (header.Known c.in-Ok-Known.node) c.in-Ok-Known.field-0-is (c.in-Ok-Known.ensures.found told) in
     node_after g.V.Space.view c.args.blocks.now _ _ _ _ c.args.ks c.args.at c.in-Ok-Known.node same first
-    (c.in-Ok-adopt_data.ensures.found told)
+    (c.in-Ok.ensures.found told)
 
 pub returns-in-Err-adopt_data-clause-refused : goal.returns-in-Err-adopt_data-clause-refused
 returns-in-Err-adopt_data-clause-refused g c = λ told.

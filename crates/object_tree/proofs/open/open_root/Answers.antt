@@ -48,14 +48,14 @@ returns-in-Some-clause-failed g c = λ failed.
 pub returns-in-Some-clause-alike : goal.returns-in-Some-clause-alike
 returns-in-Some-clause-alike g c = g.V.Kept.transitive _ _ _ c.in-Ok-Known.ensures.alike c.open_below.ensures.alike
 
-pub returns-in-Ok-Known-clause-refused : goal.returns-in-Ok-Known-clause-refused
-returns-in-Ok-Known-clause-refused g c = λ told spelled.
+pub returns-in-None-clause-refused : goal.returns-in-None-clause-refused
+returns-in-None-clause-refused g c = λ told spelled.
     let b = (g.V.Space.view (space_of c.args.blocks.now)).array in
     let first = found_as g.V.Space.view c.args.blocks.now _ b c.args.superblock.root.header_at c.in-Ok-Known.field-0
     (header.Known c.in-Ok-Known.node) c.in-Ok-Known.field-0-is (c.in-Ok-Known.ensures.found told)
     (super_block c.args.superblock ∷ []) c.requires.taken in
-    root_kind_refused b (bounds_of (g.V.Space.view (space_of c.args.blocks.now)) None) c.args.superblock
-    c.in-Ok-Known.node first.0 spelled (sym c.table_of.ensures ∙ c.in-None.is) first.1
+    rw c.unsupported.ensures (root_kind_refused b (bounds_of (g.V.Space.view (space_of c.args.blocks.now)) None) c.args.superblock
+    c.in-Ok-Known.node first.0 spelled (sym c.table_of.ensures ∙ c.in-None.is) first.1)
 
 pub returns-in-Ok-Later-clause-refused : goal.returns-in-Ok-Later-clause-refused
 returns-in-Ok-Later-clause-refused g c = λ told spelled.
@@ -63,11 +63,11 @@ returns-in-Ok-Later-clause-refused g c = λ told spelled.
     let first = found_as g.V.Space.view c.args.blocks.now _ b c.args.superblock.root.header_at c.in-Ok-Later.field-0
     header.Later c.in-Ok-Later.field-0-is (c.in-Ok-Later.ensures.found told) (super_block c.args.superblock ∷ [])
     c.requires.taken in
-    root_later_refused b (bounds_of (g.V.Space.view (space_of c.args.blocks.now)) None) c.args.superblock first.0 spelled
-    first.1
+    rw c.unsupported-in-Ok-Later.ensures (root_later_refused b
+    (bounds_of (g.V.Space.view (space_of c.args.blocks.now)) None) c.args.superblock first.0 spelled first.1)
 
-pub returns-clause-refused : goal.returns-clause-refused
-returns-clause-refused g c = λ told spelled.
+pub returns-in-Err-clause-refused : goal.returns-in-Err-clause-refused
+returns-in-Err-clause-refused g c = λ told spelled.
     root_header_refused (g.V.Space.view (space_of c.args.blocks.now)).array
     (bounds_of (g.V.Space.view (space_of c.args.blocks.now)) None) c.args.superblock c.in-Err.stop spelled refl
     (c.in-Err.ensures.refused told (super_block c.args.superblock ∷ []) None c.requires.taken)

@@ -29,10 +29,10 @@ returns-in-Ok-read_super-clause-refused g c = λ told.
 pub returns-in-Err-NotThis-clause-refused : goal.returns-in-Err-NotThis-clause-refused
 returns-in-Err-NotThis-clause-refused g c = λ told.
     let same = super_read g.V.Space.view (space_of c.args.blocks.now) c.space.result.now c.deref.result.now c.in-Ok.bytes.items _ c.end.result c.space.ensures c.end.ensures c.min-len.ensures (c.in-Ok.ensures.bytes told) c.deref.ensures.value in
-    no_super (g.V.Space.view (space_of c.args.blocks.now)).array (bounds_of (g.V.Space.view (space_of c.args.blocks.now)) None) c.deref.result.now c.read_super.result super_stop.NotThis same c.read_super.ensures.only (c.in-Err-NotThis.is ∙ ap Err c.in-Err-NotThis.field-0-is) (sym c.in-Err-NotThis.field-0-is ∙ c.in-Err-NotThis.ensures.stop)
+    rw c.malformed.ensures (no_super (g.V.Space.view (space_of c.args.blocks.now)).array (bounds_of (g.V.Space.view (space_of c.args.blocks.now)) None) c.deref.result.now c.read_super.result super_stop.NotThis same c.read_super.ensures.only (c.in-Err-NotThis.is ∙ ap Err c.in-Err-NotThis.field-0-is) (sym c.in-Err-NotThis.field-0-is ∙ c.in-Err-NotThis.ensures.stop))
 
 pub returns-clause-refused : goal.returns-clause-refused
 returns-clause-refused g c = λ told.
     let same = super_read g.V.Space.view (space_of c.args.blocks.now) c.space.result.now c.deref.result.now c.in-Ok.bytes.items _ c.end.result c.space.ensures c.end.ensures c.min-len.ensures (c.in-Ok.ensures.bytes told) c.deref.ensures.value in
     let stop = super_stop.Unsupported c.in-Err-Unsupported.what in
-    no_super (g.V.Space.view (space_of c.args.blocks.now)).array (bounds_of (g.V.Space.view (space_of c.args.blocks.now)) None) c.deref.result.now c.read_super.result stop same c.read_super.ensures.only (c.in-Err-Unsupported.is ∙ ap Err c.in-Err-Unsupported.field-0-is) (sym c.in-Err-Unsupported.field-0-is ∙ c.in-Err-Unsupported.ensures.stop)
+    rw c.unsupported.ensures (no_super (g.V.Space.view (space_of c.args.blocks.now)).array (bounds_of (g.V.Space.view (space_of c.args.blocks.now)) None) c.deref.result.now c.read_super.result stop same c.read_super.ensures.only (c.in-Err-Unsupported.is ∙ ap Err c.in-Err-Unsupported.field-0-is) (sym c.in-Err-Unsupported.field-0-is ∙ c.in-Err-Unsupported.ensures.stop))

@@ -114,7 +114,7 @@ open_links-returns-in-Ok-clause-refused g c = λ d told.
 
 pub open_object-returns-in-Err-clause-refused : goal.open_object-returns-in-Err-clause-refused
 open_object-returns-in-Err-clause-refused g c = λ d told met own keeps.
-    refused_counted _ _ d.args.place.ks d.args.place.levels d.objects.result _ met d.args.at d.in-Err.stop d.objects.ensures.count (omega (arith, d.if-place-levels-eq0.false)) (d.in-Err.ensures.refused told (d.args.place.levels - 1) met own keeps)
+    refused_counted _ _ d.args.place.ks d.args.place.levels d.objects.result _ met d.args.at d.in-Err.stop d.objects.ensures.count (omega (arith, d.if-place-eq0.false)) (d.in-Err.ensures.refused told (d.args.place.levels - 1) met own keeps)
 
 pub open_object-returns-in-None-clause-opened : goal.open_object-returns-in-None-clause-opened
 open_object-returns-in-None-clause-opened g c = λ d. (
@@ -122,7 +122,7 @@ open_object-returns-in-None-clause-opened g c = λ d. (
   adds_leaf d.args.opening.now.tree d.add.new.tree d.args.place.group.key d.args.name d.in-Ok-add.id.key d.in-Ok.node d.in-Ok-add.ensures.added,
   λ told met keeps.
       let f = d.in-Ok.ensures.found told met keeps in
-      leaf_opened g.V.Space.view _ (g.V.Space.view (space_of d.args.blocks.now)).array d.args.place.ks d.args.place.levels d.args.at d.in-Ok-add.id.key d.in-Ok.node met f.0 (omega (arith, d.if-place-levels-eq0.false))
+      leaf_opened g.V.Space.view _ (g.V.Space.view (space_of d.args.blocks.now)).array d.args.place.ks d.args.place.levels d.args.at d.in-Ok-add.id.key d.in-Ok.node met f.0 (omega (arith, d.if-place-eq0.false))
       (sym d.table_of-table.ensures ∙ d.in-None.is) f.1 f.2,
 )
 
@@ -131,13 +131,13 @@ open_object-returns-in-Some-clause-opened g c = λ d.
     let same = ap (λ (v : SpaceView). v.array) (g.met.V.Space.alike _ _ d.in-Ok.ensures.alike) in
     let there = there_is d.args.opening.now.tree d.add.new.tree d.args.place.group d.args.name d.in-Ok-add.id.key d.in-Ok.node d.requires.lacks d.requires.ordered d.in-Ok-add.ensures.added in
     object_from g.V.Space.view d.args.blocks.now _ _ d.args.opening.now.tree d.add.new.tree _ _ _ d.args.place.ks d.args.place.levels d.args.at d.args.place.group.key d.in-Ok-add.id.key d.in-Some.table.tree_at d.in-Some.table.heap_at d.args.name d.in-Ok.node
-    g.V.Space.tells d.open_links.result same (omega (arith, d.if-place-levels-eq0.false)) (sym d.table_of-table.ensures ∙ d.in-Some.is) there d.in-Ok-add.ensures.added d.in-Ok.ensures.found d.open_links.ensures.opened
+    g.V.Space.tells d.open_links.result same (omega (arith, d.if-place-eq0.false)) (sym d.table_of-table.ensures ∙ d.in-Some.is) there d.in-Ok-add.ensures.added d.in-Ok.ensures.found d.open_links.ensures.opened
 
 pub open_object-returns-in-Some-clause-refused : goal.open_object-returns-in-Some-clause-refused
 open_object-returns-in-Some-clause-refused g c = λ d told.
     let same = g.met.V.Space.alike _ _ d.in-Ok.ensures.alike in
     let table = sym d.table_of-table.ensures ∙ d.in-Some.is in
-    object_refused g.V.Space.view d.args.blocks.now _ _ _ d.args.place.ks d.args.place.levels _ _ d.args.at d.in-Some.table.tree_at d.in-Some.table.heap_at d.in-Ok.node d.open_links.result same (omega (arith, d.if-place-levels-eq0.false)) table
+    object_refused g.V.Space.view d.args.blocks.now _ _ _ d.args.place.ks d.args.place.levels _ _ d.args.at d.in-Some.table.tree_at d.in-Some.table.heap_at d.in-Ok.node d.open_links.result same (omega (arith, d.if-place-eq0.false)) table
     (d.in-Ok-add.ensures.added.objects ∙ ap (λ k. object_count d.args.opening.now.tree + k) (table_object d.in-Ok.node d.in-Some.table.tree_at d.in-Some.table.heap_at table)) (d.in-Ok.ensures.found told) (d.open_links.ensures.refused told)
 
 pub open_link-returns-in-Ok-clause-sound : goal.open_link-returns-in-Ok-clause-sound
