@@ -213,7 +213,7 @@ header_not b e met at prefix parts later r header room short refused = go refuse
 
     go : IsHeaderRefused b e met at r → ⊥
     go (LaterHeader is h) = not_refused e met (record { start = at; len = 4 }) kind.Header r (free_less e met at (16 + prefix.size) 4 (omega arith) (omega arith) free) h
-    go (PrefixBlock not h) = not_refused e met (record { start = at; len = 16 }) kind.Header r (free_less e met at (16 + prefix.size) 16 (omega arith) (omega arith) free) h
+    go (PrefixBlock not none h) = not_refused e met (record { start = at; len = 16 }) kind.Header r (free_less e met at (16 + prefix.size) 16 (omega arith) (omega arith) free) h
     go (NoPrefix not none line) = none prefix header.spelled
     go (LargeFirst p spelled large line) = let size = ap (λ (x : Prefix). x.size) (same p spelled) in omega (arith, size, large, first, short)
     go (HeaderBlock p spelled small h) =

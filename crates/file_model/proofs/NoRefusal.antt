@@ -43,7 +43,7 @@ later_not b e met at later r is room refused = go refused
 
     go : IsHeaderRefused b e met at r → ⊥
     go (LaterHeader same h) = not_refused e met (record { start = at; len = 4 }) kind.Header r (free_of e met (record { start = at; len = 4 }) later room) h
-    go (PrefixBlock not h) = not is
+    go (PrefixBlock not none h) = not is
     go (NoPrefix not none line) = not is
     go (LargeFirst p spelled large line) = wrong p spelled
     go (HeaderBlock p spelled small h) = wrong p spelled

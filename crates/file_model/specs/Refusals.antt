@@ -1,6 +1,6 @@
 -- Why an object's header is refused: by bytes that are reached once all before them was read, beside the blocks that
 -- were met before. Cited by what opens a file.
-use Rattle.std.specs.Prelude.{◌≡◌, ◌≢◌, ℕ, ◌+◌, ◌<◌, ◌≤◌, List, [], ◌∷◌, ◌++◌, length}
+use Rattle.std.specs.Prelude.{◌≡◌, ◌≢◌, ℕ, ◌+◌, ◌^◌, ◌<◌, ◌≤◌, List, [], ◌∷◌, ◌++◌, length}
 use Rattle.std.specs.List.{sum_by}
 use Rattle.outside.specs.Array.{Array, bytes_of}
 use Rattle.outside.specs.Blocks.{Block, Bounds, IsBlockRefused, IsPlacedRefused}
@@ -61,13 +61,14 @@ pub data IsMessageRefused (b : Array) (e : Bounds) (met : List Block) (at : ℕ)
       → IsPlacedRefused e (met ++ so_far at prefix parts block ms) (u64_at m.body 0) (u64_at m.body 8) kind.Header r
       → IsMessageRefused b e met at prefix r
 
--- The header of an object is refused: by the 4 bytes of a later version, by the 16 of its prefix, by its size, by its
--- block, or in its messages.
+-- The header of an object is refused: by the 4 bytes of a later version; where there is no prefix, by the block of 16
+-- bytes that it would have; else by its size, by its block, or in its messages.
 pub data IsHeaderRefused (b : Array) (e : Bounds) (met : List Block) (at : ℕ) (r : Refusal) : Type 0 where
   LaterHeader : bytes_of b at 4 ≡ later_header → IsBlockRefused e met (record { start = at; len = 4 }) kind.Header r
       → IsHeaderRefused b e met at r
-  PrefixBlock : bytes_of b at 4 ≢ later_header → IsBlockRefused e met (record { start = at; len = 16 }) kind.Header r
-      → IsHeaderRefused b e met at r
+  PrefixBlock : bytes_of b at 4 ≢ later_header
+      → (at + 16 ≤ 2 ^ 64 → (p : Prefix) → SpellsPrefix p (bytes_of b at 16) → ⊥)
+      → IsBlockRefused e met (record { start = at; len = 16 }) kind.Header r → IsHeaderRefused b e met at r
   NoPrefix : bytes_of b at 4 ≢ later_header → ((p : Prefix) → SpellsPrefix p (bytes_of b at 16) → ⊥)
       → r ≡ Malformed at kind.Header → IsHeaderRefused b e met at r
   LargeFirst : (prefix : Prefix) → SpellsPrefix prefix (bytes_of b at 16) → most_header < 16 + prefix.size

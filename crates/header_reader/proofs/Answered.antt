@@ -126,23 +126,25 @@ decide (x ∷ xs) (y ∷ ys) = go (cases_eq x y) (decide xs ys)
     go (inr a) b = inr (λ e. a (let head : x ≡ y = cc in head))
     go (inl a) (inr b) = inr (λ e. b (let tail : xs ≡ ys = cc in tail))
 
+unspelled : (b : Array) (at n : ℕ) (items : List ℕ) → AreFirst b at n items → ((p : Prefix) → SpellsPrefix p items → ⊥) → at + 16 ≤ 2 ^ 64 → (p : Prefix) → SpellsPrefix p (bytes_of b at 16) → ⊥
+unspelled b at n items first none fits p spelled = none p (subst (SpellsPrefix p) (sym (first.bytes ∙ ap (bytes_of b at) (first.whole fits))) spelled)
+
 -- where no prefix is spelled
 pub prefix_refused : (v : SpaceView) (own : Option (List ℕ)) (met : List Block) (at n : ℕ) (items : List ℕ) (r : Refusal) → AreRegions v.regions v.ends → AllInside (bounds_of v own) met → AreFirst v.array at n items
     → ((4 ≤ length items) × (take 4 items ≡ later_header) → ⊥) → ((p : Prefix) → SpellsPrefix p items → ⊥)
     → IsBlockRefused (bounds_of v own) met (record { start = at; len = 16 }) kind.Header r ⊎ ((at + 16 < 2 ^ 64) × (r ≡ Malformed at kind.Header)) → IsHeaderRefused v.array (bounds_of v own) met at r
 prefix_refused v own met at n items r sound all first later none (inr why) =
-    let whole : n ≡ 16 = first.whole (let fits = why.0 in omega (arith, fits)) in
-    NoPrefix (not_later v.array at n items first later (omega (arith, whole)))
-    (λ p spelled. none p (subst (SpellsPrefix p) (sym (first.bytes ∙ ap (bytes_of v.array at) whole)) spelled)) why.1
+    let fits : at + 16 ≤ 2 ^ 64 = let low = why.0 in omega (arith, low) in
+    NoPrefix (not_later v.array at n items first later (omega (arith, first.whole fits))) (unspelled v.array at n items first none fits) why.1
 prefix_refused v own met at n items r sound all first later none (inl h) = go (cases_lt (2 ^ 64) (at + 4))
   where
     high : 2 ^ 64 < at + 4 → (bytes_of v.array at 4 ≡ later_header) ⊎ (bytes_of v.array at 4 ≡ later_header → ⊥) → IsHeaderRefused v.array (bounds_of v own) met at r
     high lt (inl is) = LaterHeader is (refused_less v own met at 16 4 kind.Header r sound all (omega (arith, lt)) (omega arith) h)
-    high lt (inr not) = PrefixBlock not h
+    high lt (inr not) = PrefixBlock not (unspelled v.array at n items first none) h
 
     go : (2 ^ 64 < at + 4) ⊎ (at + 4 ≤ 2 ^ 64) → IsHeaderRefused v.array (bounds_of v own) met at r
     go (inl lt) = high lt (decide (bytes_of v.array at 4) later_header)
-    go (inr le) = PrefixBlock (not_later v.array at n items first later (first.four le)) h
+    go (inr le) = PrefixBlock (not_later v.array at n items first later (first.four le)) (unspelled v.array at n items first none) h
 
 pub later_refused : (v w : SpaceView) (own : Option (List ℕ)) (met : List Block) (at : ℕ) (r : Refusal) → v ≡ w → bytes_of v.array at 4 ≡ later_header
     → IsBlockRefused (bounds_of w own) met (record { start = at; len = 4 }) kind.Header r → IsHeaderRefused v.array (bounds_of v own) met at r
