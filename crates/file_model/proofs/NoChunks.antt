@@ -1,21 +1,20 @@
 -- What is stored of a dataset isn't refused where it is held.
-use Rattle.std.proofs.Common.{◌≡◌, ◌≢◌, ◌⊎◌, ℕ, zero, suc, ◌+◌, ◌*◌, ◌==◌, Bool, true, false, List, [], ◌∷◌, ◌++◌, length, refl, sym, ◌∙◌, ap, subst, arith, inl, inr, if◌then◌else◌}
+use Rattle.std.proofs.Common.{◌≡◌, ℕ, zero, suc, ◌*◌, ◌==◌, Bool, true, false, List, [], ◌∷◌, ◌++◌, length, refl, sym, ◌∙◌, ap, subst, arith, inl, inr}
 use Rattle.std.proofs.lemmas.List.{append_assoc}
 use Rattle.std.proofs.lemmas.Bool.Decides.{nat_tests}
-use Rattle.outside.specs.Array.{Array, bytes_of}
+use Rattle.outside.specs.Array.{Array}
 use Rattle.outside.specs.Blocks.{Block, Bounds, placed, undefined}
 use Rattle.h5_base.specs.declared.kinds.BlockKind.TheVariants as kind
 use Rattle.dtype.specs.Products.{product}
 use Rattle.dtype.specs.Types.{size_of}
 use Rattle.header_codec.specs.declared.types.Layout.{Layout}
 use Rattle.header_codec.specs.declared.types.Layout.TheVariants as layout
-use Rattle.node_codec.specs.ChunkNodes.{SpellsChunkNode, chunk_node_len}
+use Rattle.node_codec.specs.ChunkNodes.{chunk_node_len}
 use Rattle.node_codec.specs.declared.chunk_node.ChunkNode.{ChunkNode}
 use Rattle.node_codec.specs.declared.chunk_node.ChunkKey.{ChunkKey}
 use Rattle.file_model.specs.Objects.{DataInfo}
-use Rattle.file_model.specs.Chunks.{Chunk, Under, ComesFirst, AreAscending, AreChildren, IsFrom, IsBelow, IsStored, IsNode, IsIndex, is_read, IsIndexed, IsStoredBy}
+use Rattle.file_model.specs.Chunks.{Chunk, Under, AreAscending, AreChildren, IsFrom, IsBelow, IsStored, IsNode, IsIndex, IsIndexed, IsStoredBy}
 use Rattle.h5_base.specs.declared.refusal.Refusal.{Refusal}
-use Rattle.outside.specs.Blocks.{IsBlockRefused, IsPlacedRefused}
 use Rattle.file_model.specs.RefusedChunks.{RefusedChunks, IsChunkRefused, ChunkBlock, WrongBytes, WrongOffset, AreOffsetsRefused, BelowKey, AboveKey, OffsetsDisordered, AreChunksRefused, IsChunkNodeRefused, NodeBlock, NoNode, InChildren, IsChunkIndexRefused, chunk_level, IsStorageRefused, RawBlock, InIndex}
 use Rattle.file_model.proofs.UniqueChunks.{IsOne, stored_same, index_same, level_of}
 use Rattle.file_model.proofs.NoFault.{Room, free_of, not_refused, room_after, placed_not_refused}

@@ -1,6 +1,6 @@
 -- Why the block of a dataset's elements, or its chunk index, is refused, after the blocks that were met before.
 -- Cited by what opens a file.
-use Rattle.std.specs.Prelude.{◌≡◌, ◌≢◌, ◌⊎◌, ℕ, zero, suc, ◌+◌, ◌*◌, Bool, true, false, IsTrue, List, [], ◌∷◌, ◌++◌}
+use Rattle.std.specs.Prelude.{◌≡◌, ◌≢◌, ◌⊎◌, ℕ, zero, suc, ◌*◌, Bool, true, false, IsTrue, List, [], ◌∷◌, ◌++◌}
 use Rattle.std.specs.Prelude.{length}
 use Rattle.outside.specs.Array.{Array, bytes_of}
 use Rattle.outside.specs.Blocks.{Block, Bounds, undefined}
@@ -59,8 +59,8 @@ AreChunksRefused node Child RefusedChild first (k ∷ l ∷ ks) (a ∷ rest) don
     × (AreOffsetsRefused node first k.offset l.offset rest done here r
     ⊎ AreChunksRefused node Child RefusedChild false (l ∷ ks) rest (done ++ here) (met ++ own) r))
 
--- A node of this level is refused for its block, else for its bytes, which spell none of this level, else for what stands
--- under it.
+-- A node of this level is refused for its block, else for its bytes, which spell no such node, else for what stands under
+-- it.
 pub data IsChunkNodeRefused (b : Array) (e : Bounds) (k rank level : ℕ) (Child : Under) (RefusedChild : ℕ
     → RefusedChunks) (met : List Block) (at : ℕ) (r : Refusal) : Type 0 where
   NodeBlock : IsBlockRefused e met (record { start = at; len = chunk_node_len k rank }) kind.Tree r
