@@ -11,7 +11,7 @@ use Rattle.node_codec.specs.declared.chunk_node.ChunkKey.{ChunkKey}
 use Rattle.node_codec.specs.declared.chunk_node.ChunkNode.{ChunkNode}
 use Rattle.file_model.specs.Chunks.{Chunk, Under, AreAscending, AreChildren, IsAbove, IsBelow, IsFrom, IsStored, comes_before}
 use Rattle.outside.specs.Blocks.{IsBlockRefused}
-use Rattle.file_model.specs.RefusedChunks.{RefusedChunks, AreChunksRefused, IsAccepted, IsChunkRefused, ChunkBlock, AboveKey}
+use Rattle.file_model.specs.RefusedChunks.{RefusedChunks, AreChunksRefused, AreTaken, IsChunkRefused, ChunkBlock, AboveKey}
 use Rattle.storage_reader.specs.Nodes.{IsChildOf, child_at, refused_child}
 use Rattle.storage_reader.specs.declared.form.Form.{Form}
 use Rattle.storage_reader.proofs.Children.{AreRead, next_of, none_read, all_read, child_read, offsets_refused}
@@ -28,8 +28,8 @@ pub chunk_block : (e : Bounds) (rank : ℕ) (sizes : List ℕ) (node : ℕ) (met
 chunk_block e rank sizes node met key at len r is h = ChunkBlock (subst (λ (n : ℕ). IsBlockRefused e met (record { start = at; len = n }) Raw r) is h)
 
 -- the block by the bytes of a chunk
-pub accepted_chunk : (e : Bounds) (met : List Block) (at len : ℕ) (sizes : List ℕ) → len ≡ product sizes → IsAccepted e met (record { start = at; len = len }) Raw → IsAccepted e met (record { start = at; len = product sizes }) Raw
-accepted_chunk e met at len sizes is h = subst (λ (n : ℕ). IsAccepted e met (record { start = at; len = n }) Raw) is h
+pub taken_chunk : (e : Bounds) (met : List Block) (at len : ℕ) (sizes : List ℕ) → len ≡ product sizes → AreTaken e met (record { start = at; len = len } ∷ []) → AreTaken e met (record { start = at; len = product sizes } ∷ [])
+taken_chunk e met at len sizes is h = subst (λ (n : ℕ). AreTaken e met (record { start = at; len = n } ∷ [])) is h
 
 -- the children of a node of level 0 are chunks
 pub stored_child : (b : Array) (f : Form) (level : ℕ) (key : ChunkKey) (at : ℕ) (cs : List Chunk) (bs : List Block) → level ≡ 0 → IsStored f.rank f.sizes key at cs bs → child_at b f level key at cs bs
@@ -93,9 +93,9 @@ module _ (Child : Under) (Refused : Bounds → RefusedChunks) (node : ℕ) (m : 
         above_here = h.above k (drop (n + 1) m.keys) (next_of m n k l a at).low_is at.inside
 
     -- the key behind a chunk isn't above it
-    pub key_stopped : (e : Bounds) (met : List Block) → n + 1 < length m.children → comes_before k.offset l.offset ≡ false → AreChunksRefused node Child (Refused e) true m.keys m.children [] met (Malformed node Tree)
-    key_stopped e met more behind =
-        offsets_refused Child Refused node m n k l a at h.chunks bs h.read (one_chunk k a ∷ []) own child e met (Malformed node Tree)
+    pub key_stopped : (e : Bounds) (met : List Block) → AreTaken e met bs → AreTaken e (met ++ bs) own → n + 1 < length m.children → comes_before k.offset l.offset ≡ false → AreChunksRefused e node Child (Refused e) true m.keys m.children [] met (Malformed node Tree)
+    key_stopped e met taken here more behind =
+        offsets_refused Child Refused node m n k l a at h.chunks bs h.read (one_chunk k a ∷ []) own child e met (Malformed node Tree) taken here
         (AboveKey (from_itself (n == 0) k.offset a) (λ below.
         let above = above_dropped (drop (n + 1) m.children) l.offset (one_chunk k a ∷ []) (omega (arith, length-drop (n + 1) m.children)) below in
         let yes = above.0 in

@@ -9,7 +9,7 @@ use Rattle.h5_base.specs.declared.refusal.Refusal.TheVariants.{Malformed}
 use Rattle.node_codec.specs.declared.chunk_node.ChunkNode.{ChunkNode}
 use Rattle.node_codec.specs.declared.chunk_node.ChunkKey.{ChunkKey}
 use Rattle.file_model.specs.Chunks.{Chunk, Under, AreAscending, AreChildren, IsNode, IsStored}
-use Rattle.file_model.specs.RefusedChunks.{RefusedChunks, IsAccepted, NodeBlock, NoNode, InChildren, chunk_level, AreOffsetsRefused, AreChunksRefused}
+use Rattle.file_model.specs.RefusedChunks.{RefusedChunks, AreTaken, NodeBlock, NoNode, InChildren, chunk_level, AreOffsetsRefused, AreChunksRefused}
 use Rattle.storage_reader.specs.Ends.{AreSpanned, HaveEnds, IsInPlace, Spans}
 use Rattle.storage_reader.specs.Nodes.{AreUnder, IsChildOf, IsIndexAt, IsIndexRefused, IsNodeAt, IsUnderRefused, IsWholeIndex, child_at, refused_child, node_block}
 use Rattle.storage_reader.specs.declared.ends.Ends.{Ends}
@@ -23,24 +23,24 @@ module _ (b : Array) (f : Form) where
   node_block_refused zero at e met r h = NodeBlock h
   node_block_refused (suc level) at e met r h = NodeBlock h
 
-  pub no_node : (level at : ℕ) (e : Bounds) (met : List Block) → IsAccepted e met (node_block f at) Tree → ((n : ChunkNode) → IsNodeAt b f at n → n.level ≡ level → ⊥) → IsIndexRefused b f level at e met (Malformed at Tree)
-  no_node zero at e met accepted h = NoNode accepted h refl
-  no_node (suc level) at e met accepted h = NoNode accepted h refl
+  pub no_node : (level at : ℕ) (e : Bounds) (met xs : List Block) → AreTaken e met xs → xs ≡ node_block f at ∷ [] → ((n : ChunkNode) → IsNodeAt b f at n → n.level ≡ level → ⊥) → IsIndexRefused b f level at e met (Malformed at Tree)
+  no_node zero at e met xs taken block h = NoNode (subst (AreTaken e met) block taken) h refl
+  no_node (suc level) at e met xs taken block h = NoNode (subst (AreTaken e met) block taken) h refl
 
   -- a block spells one node
   pub other_level : (level at : ℕ) (n m : ChunkNode) → IsNodeAt b f at n → (n.level ≡ level → ⊥) → IsNodeAt b f at m → m.level ≡ level → ⊥
   other_level level at n m h other g is = other (ap (λ (x : ChunkNode). x.level) (h.value ∙ sym g.value) ∙ is)
 
-  in_children : (level at : ℕ) (n : ChunkNode) (e : Bounds) (met : List Block) (r : Refusal) → IsAccepted e met (node_block f at) Tree → IsNodeAt b f at n → n.level ≡ level
-      → AreChunksRefused at (child_at b f level) (refused_child b f level at e) true n.keys n.children [] (met ++ node_block f at ∷ []) r → IsIndexRefused b f level at e met r
-  in_children zero at n e met r accepted spelled is h = InChildren n accepted spelled is h
-  in_children (suc level) at n e met r accepted spelled is h = InChildren n accepted spelled is h
+  in_children : (level at : ℕ) (n : ChunkNode) (e : Bounds) (met : List Block) (r : Refusal) → AreTaken e met (node_block f at ∷ []) → IsNodeAt b f at n → n.level ≡ level
+      → AreChunksRefused e at (child_at b f level) (refused_child b f level at e) true n.keys n.children [] (met ++ node_block f at ∷ []) r → IsIndexRefused b f level at e met r
+  in_children zero at n e met r taken spelled is h = InChildren n taken spelled is h
+  in_children (suc level) at n e met r taken spelled is h = InChildren n taken spelled is h
 
-  pub children_stopped : (level at : ℕ) (n : ChunkNode) (e : Bounds) (met xs : List Block) (r : Refusal) → IsAccepted e met (node_block f at) Tree → IsNodeAt b f at n → n.level ≡ level → xs ≡ node_block f at ∷ []
+  pub children_stopped : (level at : ℕ) (n : ChunkNode) (e : Bounds) (met xs : List Block) (r : Refusal) → AreTaken e met xs → IsNodeAt b f at n → n.level ≡ level → xs ≡ node_block f at ∷ []
       → IsUnderRefused b f at n e (met ++ xs) r → IsIndexRefused b f level at e met r
-  children_stopped level at n e met xs r accepted spelled is block h =
+  children_stopped level at n e met xs r taken spelled is block h =
       subst (λ (m : ℕ). IsIndexRefused b f m at e met r) is
-      (in_children n.level at n e met r accepted spelled refl (subst (λ (l : List Block). IsUnderRefused b f at n e (met ++ l) r) block h))
+      (in_children n.level at n e met r (subst (AreTaken e met) block taken) spelled refl (subst (λ (l : List Block). IsUnderRefused b f at n e (met ++ l) r) block h))
 
   index_of : (level at : ℕ) (cs : List Chunk) (bs : List Block) → IsNode b f.k f.rank level (child_at b f level) at cs bs → IsIndexAt b f level at cs bs
   index_of zero at cs bs h = h
@@ -114,11 +114,11 @@ module _ (b : Array) (f : Form) (node : ℕ) (m : ChunkNode) (some : 0 < m.level
         }
 
     -- the offsets under the next node don't stand in order
-    pub place_stopped : (e : Bounds) (met : List Block)
+    pub place_stopped : (e : Bounds) (met : List Block) → AreTaken e met xs → AreTaken e (met ++ xs) ys
         → ((done cs : List Chunk) → AreSpanned before done → AreSpanned here cs → AreOffsetsRefused node (n == 0) low.offset high.offset (drop (n + 1) m.children) done cs (Malformed node Tree))
         → IsUnderRefused b f node m e met (Malformed node Tree)
-    place_stopped e met place =
-        offsets_refused (child_at b f m.level) (refused_child b f m.level node) node m n low high a at h.chunks xs h.part x.chunks ys (inner_child b f m.level low a x.chunks ys some x.part) e met (Malformed node Tree)
+    place_stopped e met taken more place =
+        offsets_refused (child_at b f m.level) (refused_child b f m.level node) node m n low high a at h.chunks xs h.part x.chunks ys (inner_child b f m.level low a x.chunks ys some x.part) e met (Malformed node Tree) taken more
         (place h.chunks x.chunks h.spanned x.spanned)
 
   -- all nodes were read

@@ -1,11 +1,11 @@
-use Rattle.std.proofs.Common.{◌≡◌, ◌+◌, ◌<◌, ◌++◌, [], ◌∷◌, length, arith, refl, sym, ap}
+use Rattle.std.proofs.Common.{◌≡◌, ◌+◌, ◌<◌, ◌++◌, [], ◌∷◌, length, arith, refl, sym, ◌∙◌, ap}
 use Rattle.block_space.specs.Blocks.{array_of}
 use Rattle.file_model.specs.Chunks.{AreAscending, IsStored}
 use Rattle.file_model.specs.RefusedChunks.{IsChunkRefused}
 use Rattle.storage_reader.specs.Nodes.{AreUnder, IsUnderRefused, child_at, refused_child}
 use Rattle.storage_reader.proofs.Children.{child_refused, not_last, last_not}
 use Rattle.storage_reader.proofs.LeafRead.{ChunksRead, no_chunk_read, one_chunk, stored_child, refused_chunk, chunk_more, key_stopped, chunks_done}
-use Rattle.storage_reader.proofs.Parts.{handed, refuses_then, takes_as, takes_none, takes_then}
+use Rattle.storage_reader.proofs.Parts.{handed, refuses_then, taken, takes_as, takes_none, takes_then}
 use Rattle.storage_reader.proofs.chunks.adopt_chunks.Goals as goal
 
 pub loop-i-init : goal.loop-i-init
@@ -24,7 +24,7 @@ returns-in_err-adopt_chunk-clause-refused g c =
     handed c.from_residual.result stop _ c.from_residual.ensures.1
     (refuses_then g.V.Space.view c.args.blocks.now _ (ChunksRead child refuses c.args.at n i) (λ e met r. IsChunkRefused e f.rank f.sizes c.args.at met x.low.now x.at r) (IsUnderRefused b f c.args.at n) stop
     (ap g.V.Space.view (sym c.loop-i.invariant.space)) c.loop-i.invariant.read c.in_err-adopt_chunk.ensures.refused
-    (λ met own xs r h kept why. child_refused child refuses c.args.at n i x.low.now x.high.now x.at c.child_of-child.ensures h.chunks xs h.read _ met r
+    (λ met own xs r h kept why. child_refused child refuses c.args.at n i x.low.now x.high.now x.at c.child_of-child.ensures h.chunks xs h.read _ met r (taken g.V.Space.view c.args.blocks.now _ met xs own (ap g.V.Space.view (sym c.loop-i.invariant.space)) kept)
     (refused_chunk b f n.level c.args.at _ (met ++ xs) x.low.now x.at r c.requires.level why)))
 
 pub returns-then-not-is_above-clause-refused : goal.returns-then-not-is_above-clause-refused
@@ -41,7 +41,8 @@ returns-then-not-is_above-clause-refused g c =
     let here = c.in_ok-adopt_chunk.ensures.found (met ++ before.0) before.2 in
     rw c.malformed.ensures
     (key_stopped (child_at b f n.level) (refused_child b f n.level c.args.at) c.args.at n i x.low.now x.high.now x.at c.child_of-child.ensures before.0 here.0 before.1
-    (stored_child b f n.level x.low.now x.at (one_chunk x.low.now x.at ∷ []) here.0 c.requires.level here.1) _ met more no.1)
+    (stored_child b f n.level x.low.now x.at (one_chunk x.low.now x.at ∷ []) here.0 c.requires.level here.1) _ met
+    (taken g.V.Space.view c.args.blocks.now _ met before.0 own (ap g.V.Space.view (sym c.loop-i.invariant.space)) before.2) (taken g.V.Space.view c.args.blocks.now _ (met ++ before.0) here.0 own (ap g.V.Space.view (sym (c.adopt_chunk.ensures.space ∙ c.loop-i.invariant.space))) here.2) more no.1)
 
 pub loop-i-preserved : goal.loop-i-preserved
 loop-i-preserved g c =

@@ -1,6 +1,5 @@
 use Rattle.std.proofs.Common.{◌≡◌, ◌+◌, ◌-◌, ◌++◌, ◌∷◌, [], sym, subst, length, refl, arith}
 use Rattle.std.proofs.lemmas.Result.{IfOk-weaker}
-use Rattle.h5_base.specs.declared.kinds.BlockKind.TheVariants.{Tree}
 use Rattle.outside.specs.Space.{SpaceView, bounds_of}
 use Rattle.outside.proofs.Causes.{one_later}
 use Rattle.block_space.specs.Blocks.{Refuses, Takes, array_of, space_of}
@@ -10,7 +9,7 @@ use Rattle.storage_reader.specs.Ends.{Spans}
 use Rattle.storage_reader.specs.Nodes.{AreUnder, IsIndexAt, IsIndexRefused, IsUnderRefused, child_at, refused_child, node_block}
 use Rattle.storage_reader.proofs.Children.{child_refused}
 use Rattle.storage_reader.proofs.NodeLaws.{NodesRead, no_node, other_level, children_stopped, node_spans, leaf_spans, inner_refused, no_node_read, node_more, place_stopped, nodes_done}
-use Rattle.storage_reader.proofs.Parts.{accepted, handed, refuses_then, takes_as, takes_none, takes_then}
+use Rattle.storage_reader.proofs.Parts.{handed, refuses_then, taken, takes_as, takes_none, takes_then}
 use Rattle.storage_reader.proofs.nodes.+index.Goals as goal
 
 pub adopt_children-returns-clause-found : goal.adopt_children-returns-clause-found
@@ -32,7 +31,7 @@ adopt_node-returns-then-node-level-clause-refused g t c = λ tells met own keeps
     let b = array_of g.V.Space.view c.args.blocks.now in
     let x = c.in_ok-node.ensures.kept met keeps in
     rw c.malformed.ensures
-    (no_node b f c.args.level c.args.at _ met (accepted g.V.Space.view c.args.blocks.now c.take_node.new.blocks met x.0 (node_block f c.args.at) Tree own (g.met.V.Space.alike _ _ c.take_node.ensures.alike) x.1 x.2)
+    (no_node b f c.args.level c.args.at _ met x.0 (taken g.V.Space.view c.args.blocks.now c.take_node.new.blocks met x.0 own (g.met.V.Space.alike _ _ c.take_node.ensures.alike) x.2) x.1
     (λ m spelled is. other_level b f c.args.level c.args.at n m (c.in_ok-node.ensures.found tells) c.if-node-level.true spelled is))
 
 pub adopt_node-returns-clause-found : goal.adopt_node-returns-clause-found
@@ -57,7 +56,7 @@ adopt_node-returns-clause-refused g t c = λ tells.
     (λ stop h. refuses_then g.V.Space.view c.args.blocks.now c.take_node.new.blocks (λ bs. bs ≡ node_block f c.args.at ∷ []) (IsUnderRefused b f c.args.at n) (IsIndexRefused b f c.args.level c.args.at) stop e c.in_ok-node.ensures.kept
     (subst (λ (v : SpaceView). Refuses g.V.Space.view c.take_node.new.blocks (IsUnderRefused v.array f c.args.at n) stop) (sym e) h)
     (λ met own xs r is kept x. children_stopped b f c.args.level c.args.at n _ met xs r
-    (accepted g.V.Space.view c.args.blocks.now c.take_node.new.blocks met xs (node_block f c.args.at) Tree own e is kept) (c.in_ok-node.ensures.found tells) c.if-node-level.false is x))
+    (taken g.V.Space.view c.args.blocks.now c.take_node.new.blocks met xs own e kept) (c.in_ok-node.ensures.found tells) c.if-node-level.false is x))
     (c.adopt_children.ensures.refused tells)
 
 pub adopt_node-returns-clause-failed : goal.adopt_node-returns-clause-failed
@@ -89,7 +88,7 @@ adopt_nodes-returns-in_err-here-clause-refused g t c = λ tells.
     (c.loop-i.invariant.read tells) refused
     (λ met own xs r h kept why.
     let bounds = bounds_of (g.V.Space.view (space_of c.args.blocks.now)) own in
-    child_refused (child_at b f n.level) (refused_child b f n.level c.args.at) c.args.at n i x.low.now x.high.now x.at c.child_of-child.ensures h.chunks xs h.part bounds met r
+    child_refused (child_at b f n.level) (refused_child b f n.level c.args.at) c.args.at n i x.low.now x.high.now x.at c.child_of-child.ensures h.chunks xs h.part bounds met r (taken g.V.Space.view c.args.blocks.now c.loop-i.blocks met xs own e kept)
     (inner_refused b f n.level c.args.at x.low.now x.at bounds (met ++ xs) r c.requires.level why)))
 
 pub adopt_nodes-returns-then-not-is_in_place-clause-refused : goal.adopt_nodes-returns-then-not-is_in_place-clause-refused
@@ -107,6 +106,7 @@ adopt_nodes-returns-then-not-is_in_place-clause-refused g t c = λ tells met own
     let more = found (met ++ done.0) done.2 in
     rw c.malformed.ensures
     (place_stopped b f c.args.at n c.requires.level i c.loop-i.before ends x.low.now x.high.now x.at c.child_of-child.ensures done.0 more.0 done.1 more.1 _ met
+    (taken g.V.Space.view c.args.blocks.now c.loop-i.blocks met done.0 own e done.2) (taken g.V.Space.view c.args.blocks.now c.adopt_node.new.blocks (met ++ done.0) more.0 own (g.met.V.Space.alike _ _ (g.V.Kept.transitive _ _ _ c.loop-i.invariant.alike c.adopt_node.ensures.alike)) more.2)
     (λ done cs before here. c.if-not-is_in_place.ensures.no refl done cs before here c.args.at))
 
 pub adopt_nodes-loop-i-preserved : goal.adopt_nodes-loop-i-preserved
