@@ -59,8 +59,8 @@ AreChunksRefused e node Child RefusedChild first (k ∷ l ∷ ks) (a ∷ rest) d
     × (AreOffsetsRefused node first k.offset l.offset rest done here r
     ⊎ AreChunksRefused e node Child RefusedChild false (l ∷ ks) rest (done ++ here) (met ++ own) r))
 
--- A node of this level is refused for its block, else for its bytes, which spell no such node, else for what stands under
--- it.
+-- A node of this level is refused for its block, else for its bytes, which spell no such node, else for what stands
+-- under it.
 pub data IsChunkNodeRefused (b : Array) (e : Bounds) (k rank level : ℕ) (Child : Under) (RefusedChild : ℕ
     → RefusedChunks) (met : List Block) (at : ℕ) (r : Refusal) : Type 0 where
   NodeBlock : IsBlockRefused e met (record { start = at; len = chunk_node_len k rank }) kind.Tree r

@@ -57,8 +57,8 @@ AreUnder b f n = AreChildren (child_at b f n.level) true n.keys n.children
 
 -- why what stands under the node at an address is refused
 abbrev pub IsUnderRefused : Array → Form → (at : ℕ) → ChunkNode → Bounds → List Block → Refusal → Type 0
-IsUnderRefused b f at n e met = AreChunksRefused e at (child_at b f n.level) (refused_child b f n.level at e) true n.keys
-    n.children [] met
+IsUnderRefused b f at n e met = AreChunksRefused e at (child_at b f n.level) (refused_child b f n.level at e) true
+    n.keys n.children [] met
 
 -- child i of a node stands there, between these two keys
 pub record IsChildOf (n : ChunkNode) (i : ℕ) (low high : ChunkKey) (at : ℕ) : Type 0 where
