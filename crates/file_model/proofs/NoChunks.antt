@@ -1,21 +1,20 @@
 -- What is stored of a dataset isn't refused where it is held.
-use Rattle.std.proofs.Common.{◌≡◌, ◌≢◌, ◌⊎◌, ℕ, zero, suc, ◌+◌, ◌*◌, ◌==◌, Bool, true, false, List, [], ◌∷◌, ◌++◌, length, refl, sym, ◌∙◌, ap, subst, arith, inl, inr, if◌then◌else◌}
+use Rattle.std.proofs.Common.{◌≡◌, ℕ, zero, suc, ◌*◌, ◌==◌, Bool, true, false, List, [], ◌∷◌, ◌++◌, length, refl, sym, ◌∙◌, ap, subst, arith, inl, inr}
 use Rattle.std.proofs.lemmas.List.{append_assoc}
 use Rattle.std.proofs.lemmas.Bool.Decides.{nat_tests}
-use Rattle.outside.specs.Array.{Array, bytes_of}
+use Rattle.outside.specs.Array.{Array}
 use Rattle.outside.specs.Blocks.{Block, Bounds, placed, undefined}
 use Rattle.h5_base.specs.declared.kinds.BlockKind.TheVariants as kind
 use Rattle.dtype.specs.Products.{product}
 use Rattle.dtype.specs.Types.{size_of}
 use Rattle.header_codec.specs.declared.types.Layout.{Layout}
 use Rattle.header_codec.specs.declared.types.Layout.TheVariants as layout
-use Rattle.node_codec.specs.ChunkNodes.{SpellsChunkNode, chunk_node_len}
+use Rattle.node_codec.specs.ChunkNodes.{chunk_node_len}
 use Rattle.node_codec.specs.declared.chunk_node.ChunkNode.{ChunkNode}
 use Rattle.node_codec.specs.declared.chunk_node.ChunkKey.{ChunkKey}
 use Rattle.file_model.specs.Objects.{DataInfo}
-use Rattle.file_model.specs.Chunks.{Chunk, Under, ComesFirst, AreAscending, AreChildren, IsFrom, IsBelow, IsStored, IsNode, IsIndex, is_read, IsIndexed, IsStoredBy}
+use Rattle.file_model.specs.Chunks.{Chunk, Under, AreAscending, AreChildren, IsFrom, IsBelow, IsStored, IsNode, IsIndex, IsIndexed, IsStoredBy}
 use Rattle.h5_base.specs.declared.refusal.Refusal.{Refusal}
-use Rattle.outside.specs.Blocks.{IsBlockRefused, IsPlacedRefused}
 use Rattle.file_model.specs.RefusedChunks.{RefusedChunks, IsChunkRefused, ChunkBlock, WrongBytes, WrongOffset, AreOffsetsRefused, BelowKey, AboveKey, OffsetsDisordered, AreChunksRefused, IsChunkNodeRefused, NodeBlock, NoNode, InChildren, IsChunkIndexRefused, chunk_level, IsStorageRefused, RawBlock, InIndex}
 use Rattle.file_model.proofs.UniqueChunks.{IsOne, stored_same, index_same, level_of}
 use Rattle.file_model.proofs.NoFault.{Room, free_of, not_refused, room_after, placed_not_refused}
@@ -28,8 +27,8 @@ stored_not e rank sizes node met later key at cs bs r h ordered room (ChunkBlock
     let own : Block = record { start = at; len = product sizes } in
     let room' : Room e met (own ∷ later) = subst (λ (l : List Block). Room e met (l ++ later)) h.block room in
     not_refused e met own kind.Raw r (free_of e met own later room') k
-stored_not e rank sizes node met later key at cs bs r h ordered room (WrongBytes accepted wrong line) = wrong h.bytes
-stored_not e rank sizes node met later key at cs bs r h ordered room (WrongOffset accepted bytes wrong line) = wrong h.multiples
+stored_not e rank sizes node met later key at cs bs r h ordered room (WrongBytes taken wrong line) = wrong h.bytes
+stored_not e rank sizes node met later key at cs bs r h ordered room (WrongOffset taken bytes wrong line) = wrong h.multiples
 
 -- ---- nodes
 
@@ -50,7 +49,7 @@ offsets_not node first k l rest done here r from below ordered (OffsetsDisordere
 
 children_not : (e : Bounds) (node : ℕ) (Child : Under) (Refused : RefusedChunks) → IsOne Child → NotUnder e Child Refused → (first : Bool) (keys : List ChunkKey) (children : List ℕ) (cs : List Chunk) (bs : List Block)
     (done : List Chunk) (met later : List Block) (r : Refusal) → AreChildren Child first keys children cs bs → AreAscending (done ++ cs) → Room e met (bs ++ later)
-    → AreChunksRefused node Child Refused first keys children done met r → ⊥
+    → AreChunksRefused e node Child Refused first keys children done met r → ⊥
 children_not e node Child Refused one not first keys [] cs bs done met later r h ordered room refused = refused
 children_not e node Child Refused one not first [] (a ∷ rest) cs bs done met later r h ordered room refused = refused
 children_not e node Child Refused one not first (k ∷ []) (a ∷ rest) cs bs done met later r h ordered room refused = refused
@@ -69,15 +68,15 @@ children_not e node Child Refused one not first (k ∷ l ∷ ks) (a ∷ rest) cs
     room' : Room e met (own ++ (more ++ later))
     room' = subst (Room e met) blocks room
 
-    go : AreChunksRefused node Child Refused first (k ∷ l ∷ ks) (a ∷ rest) done met r → (AreChunksRefused node Child Refused false (l ∷ ks) rest (done ++ here) (met ++ own) r → ⊥) → ⊥
+    go : AreChunksRefused e node Child Refused first (k ∷ l ∷ ks) (a ∷ rest) done met r → (AreChunksRefused e node Child Refused false (l ∷ ks) rest (done ++ here) (met ++ own) r → ⊥) → ⊥
     go (inl x) next = not met (more ++ later) k a here own r child (ascending_back done here so_far) room' x
-    go (inr (here', own', child', inl x)) next =
+    go (inr (here', own', child', taken, inl x)) next =
         let same = one k a here here' own own' child child' in
         offsets_not node first k.offset l.offset rest done here r from below so_far (subst (λ (cs : List Chunk). AreOffsetsRefused node first k.offset l.offset rest done cs r) (sym same.0) x)
-    go (inr (here', own', child', inr x)) next =
+    go (inr (here', own', child', taken, inr x)) next =
         let same = one k a here here' own own' child child' in
-        let x' = subst (λ (cs : List Chunk). AreChunksRefused node Child Refused false (l ∷ ks) rest (done ++ cs) (met ++ own) r) (sym same.0)
-        (subst (λ (bs : List Block). AreChunksRefused node Child Refused false (l ∷ ks) rest (done ++ here') (met ++ bs) r) (sym same.1) x) in
+        let x' = subst (λ (cs : List Chunk). AreChunksRefused e node Child Refused false (l ∷ ks) rest (done ++ cs) (met ++ own) r) (sym same.0)
+        (subst (λ (bs : List Block). AreChunksRefused e node Child Refused false (l ∷ ks) rest (done ++ here') (met ++ bs) r) (sym same.1) x) in
         next x'
 
 node_not : (b : Array) (e : Bounds) (k rank level : ℕ) (Child : Under) (Refused : ℕ → RefusedChunks) → IsOne Child → ((node : ℕ) → NotUnder e Child (Refused node))
@@ -92,10 +91,10 @@ node_not b e k rank level Child Refused one not met later key at cs bs r h order
 
     go : IsChunkNodeRefused b e k rank level Child Refused met at r → ⊥
     go (NodeBlock x) = not_refused e met own kind.Tree r (free_of e met own (h.below ++ later) room') x
-    go (NoNode accepted none line) = none h.node h.spelled h.level_is
-    go (InChildren n accepted spelled is x) =
+    go (NoNode taken none line) = none h.node h.spelled h.level_is
+    go (InChildren n taken spelled is x) =
         let node : n ≡ h.node = spelled.value ∙ sym h.spelled.value in
-        let x' = subst (λ (y : ChunkNode). AreChunksRefused at Child (Refused at) true y.keys y.children [] (met ++ own ∷ []) r) node x in
+        let x' = subst (λ (y : ChunkNode). AreChunksRefused e at Child (Refused at) true y.keys y.children [] (met ++ own ∷ []) r) node x in
         children_not e at Child (Refused at) one (not at) true h.node.keys h.node.children cs h.below [] (met ++ own ∷ []) later r h.children ordered (room_after e met (own ∷ []) (h.below ++ later) room') x'
 
 index_not : (b : Array) (e : Bounds) (k rank : ℕ) (sizes : List ℕ) (level : ℕ) → NotUnder e (λ key. IsIndex b k rank sizes level) (λ met key. IsChunkIndexRefused b e k rank sizes level met)

@@ -1,10 +1,9 @@
 -- Why the block of a dataset's elements, or its chunk index, is refused, after the blocks that were met before.
 -- Cited by what opens a file.
-use Rattle.std.specs.Prelude.{◌≡◌, ◌≢◌, ◌⊎◌, ℕ, zero, suc, ◌+◌, ◌*◌, Bool, true, false, IsTrue, List, [], ◌∷◌, ◌++◌}
+use Rattle.std.specs.Prelude.{◌≡◌, ◌≢◌, ◌⊎◌, ℕ, zero, suc, ◌*◌, ◌≤◌, Bool, true, false, IsTrue, List, [], ◌∷◌, ◌++◌}
 use Rattle.std.specs.Prelude.{length}
 use Rattle.outside.specs.Array.{Array, bytes_of}
 use Rattle.outside.specs.Blocks.{Block, Bounds, undefined}
-use Rattle.h5_base.specs.declared.kinds.BlockKind.{BlockKind}
 use Rattle.h5_base.specs.declared.kinds.BlockKind.TheVariants as kind
 use Rattle.dtype.specs.Products.{product}
 use Rattle.dtype.specs.Types.{size_of}
@@ -15,25 +14,26 @@ use Rattle.node_codec.specs.declared.chunk_node.ChunkKey.{ChunkKey}
 use Rattle.file_model.specs.Objects.{DataInfo}
 use Rattle.h5_base.specs.declared.refusal.Refusal.{Refusal}
 use Rattle.h5_base.specs.declared.refusal.Refusal.TheVariants.{Malformed}
-use Rattle.outside.specs.Blocks.{IsBlockRefused, IsPlacedRefused}
+use Rattle.outside.specs.Blocks.{AreKept, IsBlockRefused, IsPlacedRefused, most_blocks}
 use Rattle.file_model.specs.Chunks.{Chunk, Under, AreMultiples, chunk_sizes, IsFrom, IsBelow, AreAscending, IsStored}
 use Rattle.file_model.specs.Chunks.{IsIndex, is_read}
 
 abbrev pub RefusedChunks : Type 1
 RefusedChunks = List Block → ChunkKey → ℕ → Refusal → Type 0
 
--- a block is accepted after those that were met before: there is no reason to refuse it
-abbrev pub IsAccepted : Bounds → List Block → Block → BlockKind → Type 0
-IsAccepted e met x kind = (r : Refusal) → ¬ IsBlockRefused e met x kind r
+-- The blocks may be taken after those that were met before: all are kept together, and they aren't too many.
+pub record AreTaken (e : Bounds) (met own : List Block) : Type 0 where
+  pub kept : AreKept e (met ++ own)
+  pub few : length (met ++ own) ≤ most_blocks
 
 -- A chunk is refused for its block, else for its number of bytes, else for its offset.
 pub data IsChunkRefused (e : Bounds) (rank : ℕ) (sizes : List ℕ) (node : ℕ) (met : List Block) (key : ChunkKey)
     (at : ℕ) (r : Refusal) : Type 0 where
   ChunkBlock : IsBlockRefused e met (record { start = at; len = product sizes }) kind.Raw r
       → IsChunkRefused e rank sizes node met key at r
-  WrongBytes : IsAccepted e met (record { start = at; len = product sizes }) kind.Raw → key.bytes ≢ product sizes
+  WrongBytes : AreTaken e met (record { start = at; len = product sizes } ∷ []) → key.bytes ≢ product sizes
       → r ≡ Malformed node kind.Tree → IsChunkRefused e rank sizes node met key at r
-  WrongOffset : IsAccepted e met (record { start = at; len = product sizes }) kind.Raw → key.bytes ≡ product sizes
+  WrongOffset : AreTaken e met (record { start = at; len = product sizes } ∷ []) → key.bytes ≡ product sizes
       → ¬ AreMultiples (chunk_sizes rank sizes) key.offset → r ≡ Malformed node kind.Tree
       → IsChunkRefused e rank sizes node met key at r
 
@@ -47,31 +47,31 @@ pub data AreOffsetsRefused (node : ℕ) (first : Bool) (k l : List ℕ) (rest : 
   OffsetsDisordered : IsFrom first k here → IsBelow rest l here → ¬ AreAscending (done ++ here)
       → r ≡ Malformed node kind.Tree → AreOffsetsRefused node first k l rest done here r
 
--- a child is refused, or the offsets under it once all under it was read, or a later child
-abbrev pub AreChunksRefused : (node : ℕ) → Under → RefusedChunks → Bool → List ChunkKey → List ℕ → (done : List Chunk)
-    → List Block → Refusal → Type 0
-AreChunksRefused node Child RefusedChild first keys [] done met r = ⊥
-AreChunksRefused node Child RefusedChild first [] (a ∷ rest) done met r = ⊥
-AreChunksRefused node Child RefusedChild first (k ∷ []) (a ∷ rest) done met r = ⊥
-AreChunksRefused node Child RefusedChild first (k ∷ l ∷ ks) (a ∷ rest) done met r =
+-- A child is refused, or the offsets under it once all under it was read and its blocks were taken, or a later child.
+abbrev pub AreChunksRefused : Bounds → (node : ℕ) → Under → RefusedChunks → Bool → List ChunkKey → List ℕ
+    → (done : List Chunk) → List Block → Refusal → Type 0
+AreChunksRefused e node Child RefusedChild first keys [] done met r = ⊥
+AreChunksRefused e node Child RefusedChild first [] (a ∷ rest) done met r = ⊥
+AreChunksRefused e node Child RefusedChild first (k ∷ []) (a ∷ rest) done met r = ⊥
+AreChunksRefused e node Child RefusedChild first (k ∷ l ∷ ks) (a ∷ rest) done met r =
     RefusedChild met k a r
-    ⊎ ((here : List Chunk) × (own : List Block) × Child k a here own
+    ⊎ ((here : List Chunk) × (own : List Block) × Child k a here own × AreTaken e met own
     × (AreOffsetsRefused node first k.offset l.offset rest done here r
-    ⊎ AreChunksRefused node Child RefusedChild false (l ∷ ks) rest (done ++ here) (met ++ own) r))
+    ⊎ AreChunksRefused e node Child RefusedChild false (l ∷ ks) rest (done ++ here) (met ++ own) r))
 
--- A node of this level is refused for its block, else for its bytes, which spell none of this level, else for what stands
+-- A node of this level is refused for its block, else for its bytes, which spell no such node, else for what stands
 -- under it.
 pub data IsChunkNodeRefused (b : Array) (e : Bounds) (k rank level : ℕ) (Child : Under) (RefusedChild : ℕ
     → RefusedChunks) (met : List Block) (at : ℕ) (r : Refusal) : Type 0 where
   NodeBlock : IsBlockRefused e met (record { start = at; len = chunk_node_len k rank }) kind.Tree r
       → IsChunkNodeRefused b e k rank level Child RefusedChild met at r
-  NoNode : IsAccepted e met (record { start = at; len = chunk_node_len k rank }) kind.Tree
+  NoNode : AreTaken e met (record { start = at; len = chunk_node_len k rank } ∷ [])
       → ((n : ChunkNode) → SpellsChunkNode k rank n (bytes_of b at (chunk_node_len k rank)) → n.level ≡ level → ⊥)
       → r ≡ Malformed at kind.Tree
       → IsChunkNodeRefused b e k rank level Child RefusedChild met at r
-  InChildren : (n : ChunkNode) → IsAccepted e met (record { start = at; len = chunk_node_len k rank }) kind.Tree
+  InChildren : (n : ChunkNode) → AreTaken e met (record { start = at; len = chunk_node_len k rank } ∷ [])
       → SpellsChunkNode k rank n (bytes_of b at (chunk_node_len k rank)) → n.level ≡ level
-      → AreChunksRefused at Child (RefusedChild at) true n.keys n.children []
+      → AreChunksRefused e at Child (RefusedChild at) true n.keys n.children []
       (met ++ record { start = at; len = chunk_node_len k rank } ∷ []) r
       → IsChunkNodeRefused b e k rank level Child RefusedChild met at r
 

@@ -8,12 +8,13 @@ use Rattle.h5_base.specs.declared.refusal.Refusal.{Refusal}
 use Rattle.h5_base.specs.declared.refusal.Refusal.TheVariants.{Malformed}
 use Rattle.dtype.specs.Products.{product}
 use Rattle.node_codec.specs.declared.chunk_node.ChunkKey.{ChunkKey}
+use Rattle.node_codec.specs.declared.chunk_node.ChunkNode.{ChunkNode}
 use Rattle.file_model.specs.Chunks.{Chunk, Under, AreAscending, AreChildren, IsAbove, IsBelow, IsFrom, IsStored, comes_before}
 use Rattle.outside.specs.Blocks.{IsBlockRefused}
-use Rattle.file_model.specs.RefusedChunks.{RefusedChunks, AreChunksRefused, IsAccepted, IsChunkRefused, ChunkBlock, AboveKey}
-use Rattle.storage_reader.specs.Nodes.{child_at, refused_child}
+use Rattle.file_model.specs.RefusedChunks.{RefusedChunks, AreChunksRefused, AreTaken, IsChunkRefused, ChunkBlock, AboveKey}
+use Rattle.storage_reader.specs.Nodes.{IsChildOf, child_at, refused_child}
 use Rattle.storage_reader.specs.declared.form.Form.{Form}
-use Rattle.storage_reader.proofs.Children.{AreRead, IsNext, none_read, all_read, child_read, offsets_refused}
+use Rattle.storage_reader.proofs.Children.{AreRead, next_of, none_read, all_read, child_read, offsets_refused}
 use Rattle.storage_reader.proofs.Orders.{not_before_itself, one_more, above_more}
 
 -- ---- one chunk
@@ -27,8 +28,8 @@ pub chunk_block : (e : Bounds) (rank : ℕ) (sizes : List ℕ) (node : ℕ) (met
 chunk_block e rank sizes node met key at len r is h = ChunkBlock (subst (λ (n : ℕ). IsBlockRefused e met (record { start = at; len = n }) Raw r) is h)
 
 -- the block by the bytes of a chunk
-pub accepted_chunk : (e : Bounds) (met : List Block) (at len : ℕ) (sizes : List ℕ) → len ≡ product sizes → IsAccepted e met (record { start = at; len = len }) Raw → IsAccepted e met (record { start = at; len = product sizes }) Raw
-accepted_chunk e met at len sizes is h = subst (λ (n : ℕ). IsAccepted e met (record { start = at; len = n }) Raw) is h
+pub taken_chunk : (e : Bounds) (met : List Block) (at len : ℕ) (sizes : List ℕ) → len ≡ product sizes → AreTaken e met (record { start = at; len = len } ∷ []) → AreTaken e met (record { start = at; len = product sizes } ∷ [])
+taken_chunk e met at len sizes is h = subst (λ (n : ℕ). AreTaken e met (record { start = at; len = n } ∷ [])) is h
 
 -- the children of a node of level 0 are chunks
 pub stored_child : (b : Array) (f : Form) (level : ℕ) (key : ChunkKey) (at : ℕ) (cs : List Chunk) (bs : List Block) → level ≡ 0 → IsStored f.rank f.sizes key at cs bs → child_at b f level key at cs bs
@@ -40,11 +41,11 @@ refused_chunk b f level node e met key at r is h = subst (λ (m : ℕ). refused_
 -- ---- the chunks of a node
 
 -- the first n chunks were read, and the next key is above them
-pub record ChunksRead (Child : Under) (Refused : Bounds → RefusedChunks) (node : ℕ) (keys : List ChunkKey) (children : List ℕ) (n : ℕ) (bs : List Block) : Type 0 where
+pub record ChunksRead (Child : Under) (Refused : Bounds → RefusedChunks) (node : ℕ) (m : ChunkNode) (n : ℕ) (bs : List Block) : Type 0 where
   pub chunks : List Chunk
-  pub read : AreRead Child Refused node keys children n chunks bs
+  pub read : AreRead Child Refused node m n chunks bs
   pub ordered : AreAscending chunks
-  pub above : (key : ChunkKey) (later : List ChunkKey) → drop n keys ≡ key ∷ later → n < length children → IsAbove key.offset chunks
+  pub above : (key : ChunkKey) (later : List ChunkKey) → drop n m.keys ≡ key ∷ later → n < length m.children → IsAbove key.offset chunks
 
 below_all : (later : List ℕ) (key : List ℕ) (cs : List Chunk) → (0 < length later → IsAbove key cs) → IsBelow later key cs
 below_all [] key cs h = tt
@@ -64,24 +65,24 @@ from_itself false key at = (not_before_itself key, tt)
 same_key : (k l : ChunkKey) (ks ls : List ChunkKey) → k ∷ ks ≡ l ∷ ls → k ≡ l
 same_key k l ks ls h = cc
 
-module _ (Child : Under) (Refused : Bounds → RefusedChunks) (node : ℕ) (keys : List ChunkKey) (children : List ℕ) where
-  pub no_chunk_read : ChunksRead Child Refused node keys children 0 []
+module _ (Child : Under) (Refused : Bounds → RefusedChunks) (node : ℕ) (m : ChunkNode) where
+  pub no_chunk_read : ChunksRead Child Refused node m 0 []
   no_chunk_read = record {
     chunks = [];
-    read = none_read Child Refused node keys children;
+    read = none_read Child Refused node m;
     ordered = tt;
     above = λ key later is lt. tt;
   }
 
-  module _ (n : ℕ) (k l : ChunkKey) (a : ℕ) (at : IsNext keys children n k l a) (bs own : List Block) (h : ChunksRead Child Refused node keys children n bs) (child : Child k a (one_chunk k a ∷ []) own) where
-    pub chunk_more : n < length children → (n + 1 < length children → IsTrue (comes_before k.offset l.offset)) → ChunksRead Child Refused node keys children (n + 1) (bs ++ own)
-    chunk_more lt before = record {
+  module _ (n : ℕ) (k l : ChunkKey) (a : ℕ) (at : IsChildOf m n k l a) (bs own : List Block) (h : ChunksRead Child Refused node m n bs) (child : Child k a (one_chunk k a ∷ []) own) where
+    pub chunk_more : (n + 1 < length m.children → IsTrue (comes_before k.offset l.offset)) → ChunksRead Child Refused node m (n + 1) (bs ++ own)
+    chunk_more before = record {
       chunks = h.chunks ++ one ∷ [];
-      read = child_read Child Refused node keys children n k l a at h.chunks bs h.read (one ∷ []) own child (from_itself (n == 0) k.offset a)
-          (below_dropped children (n + 1) l.offset (one ∷ []) (λ more. (before more, tt)));
+      read = child_read Child Refused node m n k l a at h.chunks bs h.read (one ∷ []) own child (from_itself (n == 0) k.offset a)
+          (below_dropped m.children (n + 1) l.offset (one ∷ []) (λ more. (before more, tt)));
       ordered = one_more k.offset h.chunks one h.ordered above_here;
       above = λ key later is more.
-          let same : l ≡ key = same_key l key (drop (n + 1 + 1) keys) later (sym at.next_is ∙ is) in
+          let same : l ≡ key = same_key l key (drop (n + 1 + 1) m.keys) later (sym (next_of m n k l a at).high_is ∙ is) in
           subst (λ (x : ChunkKey). IsAbove x.offset (h.chunks ++ one ∷ [])) same (above_more l.offset h.chunks one above_here (before more));
     }
       where
@@ -89,17 +90,17 @@ module _ (Child : Under) (Refused : Bounds → RefusedChunks) (node : ℕ) (keys
         one = one_chunk k a
 
         above_here : IsAbove k.offset h.chunks
-        above_here = h.above k (drop (n + 1) keys) at.key_is lt
+        above_here = h.above k (drop (n + 1) m.keys) (next_of m n k l a at).low_is at.inside
 
     -- the key behind a chunk isn't above it
-    pub key_stopped : (e : Bounds) (met : List Block) → n + 1 < length children → comes_before k.offset l.offset ≡ false → AreChunksRefused node Child (Refused e) true keys children [] met (Malformed node Tree)
-    key_stopped e met more behind =
-        offsets_refused Child Refused node keys children n k l a at h.chunks bs h.read (one_chunk k a ∷ []) own child e met (Malformed node Tree)
+    pub key_stopped : (e : Bounds) (met : List Block) → AreTaken e met bs → AreTaken e (met ++ bs) own → n + 1 < length m.children → comes_before k.offset l.offset ≡ false → AreChunksRefused e node Child (Refused e) true m.keys m.children [] met (Malformed node Tree)
+    key_stopped e met taken here more behind =
+        offsets_refused Child Refused node m n k l a at h.chunks bs h.read (one_chunk k a ∷ []) own child e met (Malformed node Tree) taken here
         (AboveKey (from_itself (n == 0) k.offset a) (λ below.
-        let above = above_dropped (drop (n + 1) children) l.offset (one_chunk k a ∷ []) (omega (arith, length-drop (n + 1) children)) below in
+        let above = above_dropped (drop (n + 1) m.children) l.offset (one_chunk k a ∷ []) (omega (arith, length-drop (n + 1) m.children)) below in
         let yes = above.0 in
         cc) refl)
 
   -- all chunks were read
-  pub chunks_done : (n : ℕ) (bs : List Block) → n ≡ length children → ChunksRead Child Refused node keys children n bs → (cs : List Chunk) × AreChildren Child true keys children cs bs × AreAscending cs
-  chunks_done n bs end h = (h.chunks, all_read Child Refused node keys children n h.chunks bs end h.read, h.ordered)
+  pub chunks_done : (n : ℕ) (bs : List Block) → n ≡ length m.children → ChunksRead Child Refused node m n bs → (cs : List Chunk) × AreChildren Child true m.keys m.children cs bs × AreAscending cs
+  chunks_done n bs end h = (h.chunks, all_read Child Refused node m n h.chunks bs end h.read, h.ordered)

@@ -9,12 +9,12 @@ use Rattle.h5_base.specs.declared.refusal.Refusal.TheVariants.{Malformed}
 use Rattle.node_codec.specs.declared.chunk_node.ChunkNode.{ChunkNode}
 use Rattle.node_codec.specs.declared.chunk_node.ChunkKey.{ChunkKey}
 use Rattle.file_model.specs.Chunks.{Chunk, Under, AreAscending, AreChildren, IsNode, IsStored}
-use Rattle.file_model.specs.RefusedChunks.{RefusedChunks, IsAccepted, NodeBlock, NoNode, InChildren, chunk_level, AreOffsetsRefused, AreChunksRefused}
+use Rattle.file_model.specs.RefusedChunks.{RefusedChunks, AreTaken, NodeBlock, NoNode, InChildren, chunk_level, AreOffsetsRefused, AreChunksRefused}
 use Rattle.storage_reader.specs.Ends.{AreSpanned, HaveEnds, IsInPlace, Spans}
-use Rattle.storage_reader.specs.Nodes.{AreUnder, IsIndexAt, IsIndexRefused, IsNodeAt, IsUnderRefused, IsWholeIndex, child_at, refused_child, node_block}
+use Rattle.storage_reader.specs.Nodes.{AreUnder, IsChildOf, IsIndexAt, IsIndexRefused, IsNodeAt, IsUnderRefused, IsWholeIndex, child_at, refused_child, node_block}
 use Rattle.storage_reader.specs.declared.ends.Ends.{Ends}
 use Rattle.storage_reader.specs.declared.form.Form.{Form}
-use Rattle.storage_reader.proofs.Children.{AreRead, IsNext, none_read, all_read, child_read, offsets_refused}
+use Rattle.storage_reader.proofs.Children.{AreRead, none_read, all_read, child_read, offsets_refused}
 
 -- ---- a node and what stands under it
 
@@ -23,24 +23,24 @@ module _ (b : Array) (f : Form) where
   node_block_refused zero at e met r h = NodeBlock h
   node_block_refused (suc level) at e met r h = NodeBlock h
 
-  pub no_node : (level at : ℕ) (e : Bounds) (met : List Block) → IsAccepted e met (node_block f at) Tree → ((n : ChunkNode) → IsNodeAt b f at n → n.level ≡ level → ⊥) → IsIndexRefused b f level at e met (Malformed at Tree)
-  no_node zero at e met accepted h = NoNode accepted h refl
-  no_node (suc level) at e met accepted h = NoNode accepted h refl
+  pub no_node : (level at : ℕ) (e : Bounds) (met xs : List Block) → AreTaken e met xs → xs ≡ node_block f at ∷ [] → ((n : ChunkNode) → IsNodeAt b f at n → n.level ≡ level → ⊥) → IsIndexRefused b f level at e met (Malformed at Tree)
+  no_node zero at e met xs taken block h = NoNode (subst (AreTaken e met) block taken) h refl
+  no_node (suc level) at e met xs taken block h = NoNode (subst (AreTaken e met) block taken) h refl
 
   -- a block spells one node
   pub other_level : (level at : ℕ) (n m : ChunkNode) → IsNodeAt b f at n → (n.level ≡ level → ⊥) → IsNodeAt b f at m → m.level ≡ level → ⊥
   other_level level at n m h other g is = other (ap (λ (x : ChunkNode). x.level) (h.value ∙ sym g.value) ∙ is)
 
-  in_children : (level at : ℕ) (n : ChunkNode) (e : Bounds) (met : List Block) (r : Refusal) → IsAccepted e met (node_block f at) Tree → IsNodeAt b f at n → n.level ≡ level
-      → AreChunksRefused at (child_at b f level) (refused_child b f level at e) true n.keys n.children [] (met ++ node_block f at ∷ []) r → IsIndexRefused b f level at e met r
-  in_children zero at n e met r accepted spelled is h = InChildren n accepted spelled is h
-  in_children (suc level) at n e met r accepted spelled is h = InChildren n accepted spelled is h
+  in_children : (level at : ℕ) (n : ChunkNode) (e : Bounds) (met : List Block) (r : Refusal) → AreTaken e met (node_block f at ∷ []) → IsNodeAt b f at n → n.level ≡ level
+      → AreChunksRefused e at (child_at b f level) (refused_child b f level at e) true n.keys n.children [] (met ++ node_block f at ∷ []) r → IsIndexRefused b f level at e met r
+  in_children zero at n e met r taken spelled is h = InChildren n taken spelled is h
+  in_children (suc level) at n e met r taken spelled is h = InChildren n taken spelled is h
 
-  pub children_stopped : (level at : ℕ) (n : ChunkNode) (e : Bounds) (met xs : List Block) (r : Refusal) → IsAccepted e met (node_block f at) Tree → IsNodeAt b f at n → n.level ≡ level → xs ≡ node_block f at ∷ []
+  pub children_stopped : (level at : ℕ) (n : ChunkNode) (e : Bounds) (met xs : List Block) (r : Refusal) → AreTaken e met xs → IsNodeAt b f at n → n.level ≡ level → xs ≡ node_block f at ∷ []
       → IsUnderRefused b f at n e (met ++ xs) r → IsIndexRefused b f level at e met r
-  children_stopped level at n e met xs r accepted spelled is block h =
+  children_stopped level at n e met xs r taken spelled is block h =
       subst (λ (m : ℕ). IsIndexRefused b f m at e met r) is
-      (in_children n.level at n e met r accepted spelled refl (subst (λ (l : List Block). IsUnderRefused b f at n e (met ++ l) r) block h))
+      (in_children n.level at n e met r (subst (AreTaken e met) block taken) spelled refl (subst (λ (l : List Block). IsUnderRefused b f at n e (met ++ l) r) block h))
 
   index_of : (level at : ℕ) (cs : List Chunk) (bs : List Block) → IsNode b f.k f.rank level (child_at b f level) at cs bs → IsIndexAt b f level at cs bs
   index_of zero at cs bs h = h
@@ -92,15 +92,15 @@ module _ (b : Array) (f : Form) where
 
 -- ---- the nodes under a node, as far as they were read
 
-pub no_node_read : (Child : Under) (Refused : Bounds → RefusedChunks) (node : ℕ) (keys : List ChunkKey) (children : List ℕ) → Spans (AreRead Child Refused node keys children 0) None []
-no_node_read Child Refused node keys children = record { chunks = []; part = none_read Child Refused node keys children; spanned = record { ordered = tt; ends_are = refl } }
+pub no_node_read : (Child : Under) (Refused : Bounds → RefusedChunks) (node : ℕ) (m : ChunkNode) → Spans (AreRead Child Refused node m 0) None []
+no_node_read Child Refused node m = record { chunks = []; part = none_read Child Refused node m; spanned = record { ordered = tt; ends_are = refl } }
 
 module _ (b : Array) (f : Form) (node : ℕ) (m : ChunkNode) (some : 0 < m.level) where
   -- the first nodes were read
   abbrev pub NodesRead : ℕ → Option Ends → List Block → Type 0
-  NodesRead n = Spans (AreRead (child_at b f m.level) (refused_child b f m.level node) node m.keys m.children n)
+  NodesRead n = Spans (AreRead (child_at b f m.level) (refused_child b f m.level node) node m n)
 
-  module _ (n : ℕ) (before here : Option Ends) (low high : ChunkKey) (a : ℕ) (at : IsNext m.keys m.children n low high a) (xs ys : List Block) (h : NodesRead n before xs) (x : Spans (IsIndexAt b f (m.level - 1) a) here ys) where
+  module _ (n : ℕ) (before here : Option Ends) (low high : ChunkKey) (a : ℕ) (at : IsChildOf m n low high a) (xs ys : List Block) (h : NodesRead n before xs) (x : Spans (IsIndexAt b f (m.level - 1) a) here ys) where
     -- the next node was read, and its offsets stand in order
     pub node_more : (after : Option Ends)
         → ((done cs : List Chunk) → AreSpanned before done → AreSpanned here cs → IsInPlace (n == 0) low.offset high.offset (drop (n + 1) m.children) done cs)
@@ -109,22 +109,22 @@ module _ (b : Array) (f : Form) (node : ℕ) (m : ChunkNode) (some : 0 < m.level
         let y = place h.chunks x.chunks h.spanned x.spanned in
         record {
           chunks = h.chunks ++ x.chunks;
-          part = child_read (child_at b f m.level) (refused_child b f m.level node) node m.keys m.children n low high a at h.chunks xs h.part x.chunks ys (inner_child b f m.level low a x.chunks ys some x.part) y.from y.below;
+          part = child_read (child_at b f m.level) (refused_child b f m.level node) node m n low high a at h.chunks xs h.part x.chunks ys (inner_child b f m.level low a x.chunks ys some x.part) y.from y.below;
           spanned = record { ordered = y.ordered; ends_are = joined h.chunks x.chunks h.spanned.ends_are x.spanned.ends_are };
         }
 
     -- the offsets under the next node don't stand in order
-    pub place_stopped : (e : Bounds) (met : List Block)
+    pub place_stopped : (e : Bounds) (met : List Block) → AreTaken e met xs → AreTaken e (met ++ xs) ys
         → ((done cs : List Chunk) → AreSpanned before done → AreSpanned here cs → AreOffsetsRefused node (n == 0) low.offset high.offset (drop (n + 1) m.children) done cs (Malformed node Tree))
         → IsUnderRefused b f node m e met (Malformed node Tree)
-    place_stopped e met place =
-        offsets_refused (child_at b f m.level) (refused_child b f m.level node) node m.keys m.children n low high a at h.chunks xs h.part x.chunks ys (inner_child b f m.level low a x.chunks ys some x.part) e met (Malformed node Tree)
+    place_stopped e met taken more place =
+        offsets_refused (child_at b f m.level) (refused_child b f m.level node) node m n low high a at h.chunks xs h.part x.chunks ys (inner_child b f m.level low a x.chunks ys some x.part) e met (Malformed node Tree) taken more
         (place h.chunks x.chunks h.spanned x.spanned)
 
   -- all nodes were read
   pub nodes_done : (n : ℕ) (ends : Option Ends) (bs : List Block) → n ≡ length m.children → NodesRead n ends bs → Spans (AreUnder b f m) ends bs
   nodes_done n ends bs end h = record {
     chunks = h.chunks;
-    part = all_read (child_at b f m.level) (refused_child b f m.level node) node m.keys m.children n h.chunks bs end h.part;
+    part = all_read (child_at b f m.level) (refused_child b f m.level node) node m n h.chunks bs end h.part;
     spanned = h.spanned;
   }

@@ -3,7 +3,6 @@ use Rattle.std.proofs.Common.{◌≡◌, ℕ, ◌<◌, List, [], ◌∷◌, ◌+
 use Rattle.std.proofs.lemmas.List.{append_assoc, append-nil}
 use Rattle.std.proofs.lemmas.Result.{err_from_is_err_and}
 use Rattle.std.specs.List.{Contains}
-use Rattle.h5_base.specs.declared.kinds.BlockKind.{BlockKind}
 use Rattle.h5_base.specs.declared.refusal.Refusal.{Refusal}
 use Rattle.h5_base.specs.declared.refusal.Stop.{Stop}
 use Rattle.h5_base.specs.declared.refusal.Stop.TheVariants.{Failed}
@@ -14,8 +13,7 @@ use Rattle.block_space.specs.Blocks.{Keeps, Refuses, Takes, space_of}
 use Rattle.block_space.specs.declared.blocks.Blocks.{Blocks}
 use Rattle.block_space.proofs.Apart.{contains_head, contains_tail}
 use Rattle.block_space.proofs.Stopped.{if_some}
-use Rattle.file_model.specs.RefusedChunks.{IsAccepted}
-use Rattle.file_model.proofs.NoFault.{Room, free_of, not_refused}
+use Rattle.file_model.specs.RefusedChunks.{AreTaken}
 
 -- the stop that a `?` hands on
 pub handed : {T : Type 0} (r : Result T Stop) (stop : Stop) (P : Stop → Type 0) → IsErrAnd r (λ y. y ≡ stop) → P stop → IfErr r P
@@ -60,23 +58,13 @@ module _ {V : Type 0} (view : V → SpaceView) where
       if_some (refusal_of stop) (R e (met ++ x.0)) (Q e met) (λ r h. f met own x.0 r x.1 x.2 h)
       (subst (λ (v : SpaceView). IfSome (refusal_of stop) (R (bounds_of v own) (met ++ x.0))) (sym same) (refused (met ++ x.0) own x.2))
 
-  -- a block that was taken was accepted
-  pub accepted : (a b : Blocks V) (met xs : List Block) (x : Block) (kind : BlockKind) (own : Option (List ℕ)) → view (space_of a) ≡ view (space_of b) → xs ≡ x ∷ [] → Keeps view b (met ++ xs)
-      → IsAccepted (bounds_of (view (space_of a)) own) met x kind
-  accepted a b met xs x kind own same is keeps = λ r refused. not_refused e met x kind r (free_of e met x [] room) refused
-    where
-      e : Bounds
-      e = bounds_of (view (space_of a)) own
-
-      one : Keeps view b (met ++ x ∷ [])
-      one = subst (λ (l : List Block). Keeps view b (met ++ l)) is keeps
-
-      room : Room e met (x ∷ [])
-      room = record {
-        kept = record {
-          some = all_some (met ++ x ∷ []) one.lists.filled;
-          apart = one.lists.apart;
-          inside = subst (λ (v : SpaceView). AllInside (bounds_of v own) (met ++ x ∷ [])) (sym same) (one.inside own);
-        };
-        few = one.few;
-      }
+  -- what is kept was taken
+  pub taken : (a b : Blocks V) (met xs : List Block) (own : Option (List ℕ)) → view (space_of a) ≡ view (space_of b) → Keeps view b (met ++ xs) → AreTaken (bounds_of (view (space_of a)) own) met xs
+  taken a b met xs own same keeps = record {
+    kept = record {
+      some = all_some (met ++ xs) keeps.lists.filled;
+      apart = keeps.lists.apart;
+      inside = subst (λ (v : SpaceView). AllInside (bounds_of v own) (met ++ xs)) (sym same) (keeps.inside own);
+    };
+    few = keeps.few;
+  }

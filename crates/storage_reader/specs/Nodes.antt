@@ -1,10 +1,11 @@
 -- What stands in a chunk index of a form: its nodes, what stands under each by its level, and why one is refused.
 -- Cited by the functions that read a chunk index.
-use Rattle.std.specs.Prelude.{ℕ, zero, suc, true, List, []}
+use Rattle.std.specs.Prelude.{◌≡◌, ℕ, zero, suc, ◌+◌, ◌<◌, true, List, [], length, get_or}
 use Rattle.outside.specs.Array.{Array, bytes_of}
 use Rattle.outside.specs.Blocks.{Block, Bounds}
 use Rattle.h5_base.specs.declared.refusal.Refusal.{Refusal}
 use Rattle.node_codec.specs.ChunkNodes.{SpellsChunkNode, chunk_node_len}
+use Rattle.node_codec.specs.declared.chunk_node.ChunkKey.{ChunkKey}
 use Rattle.node_codec.specs.declared.chunk_node.ChunkNode.{ChunkNode}
 use Rattle.file_model.specs.Chunks.{Chunk, Under, AreChildren, IsIndex, IsIndexed, IsStored}
 use Rattle.file_model.specs.RefusedChunks.{AreChunksRefused, RefusedChunks, IsChunkRefused, IsChunkIndexRefused}
@@ -56,5 +57,13 @@ AreUnder b f n = AreChildren (child_at b f n.level) true n.keys n.children
 
 -- why what stands under the node at an address is refused
 abbrev pub IsUnderRefused : Array → Form → (at : ℕ) → ChunkNode → Bounds → List Block → Refusal → Type 0
-IsUnderRefused b f at n e met = AreChunksRefused at (child_at b f n.level) (refused_child b f n.level at e) true n.keys
-    n.children [] met
+IsUnderRefused b f at n e met = AreChunksRefused e at (child_at b f n.level) (refused_child b f n.level at e) true
+    n.keys n.children [] met
+
+-- child i of a node stands there, between these two keys
+pub record IsChildOf (n : ChunkNode) (i : ℕ) (low high : ChunkKey) (at : ℕ) : Type 0 where
+  pub inside : i < length n.children
+  pub more : length n.keys ≡ length n.children + 1
+  pub low_is : low ≡ get_or n.keys i low
+  pub high_is : high ≡ get_or n.keys (i + 1) high
+  pub at_is : at ≡ get_or n.children i 0

@@ -7,6 +7,7 @@ ghost use Rattle.file_model.specs.RefusedChunks.{IsChunkRefused};
 ghost use Rattle.storage_reader.specs.Forms.{IsForm};
 ghost use Rattle.storage_reader.specs.Nodes.{AreUnder, IsUnderRefused};
 
+use crate::child::child_of;
 use crate::ends::comes_before;
 use crate::form::{Form, are_multiples};
 use block_space::Blocks;
@@ -68,13 +69,11 @@ pub(crate) fn adopt_chunks<V: Space>(
     ensures no_fault { ¬ IsErrOf result Stop.Failed }
     ensures space { space_of blocks.new ≡ space_of blocks.old }
 {
-    let keys = node.keys.as_slice();
-    let children = node.children.as_slice();
-    for (i, child) in children.iter().enumerate() {
-        let key = &keys[i];
-        let next = &keys[i + 1];
-        adopt_chunk(blocks, at, key, *child, form)?;
-        if !is_above(i + 1 == children.len(), next, key) {
+    let count = node.children.len();
+    for i in 0..count {
+        let child = child_of(node, i);
+        adopt_chunk(blocks, at, child.low, child.at, form)?;
+        if !is_above(i + 1 == count, child.high, child.low) {
             return Err(Stop::malformed(at, BlockKind::Tree));
         }
     }

@@ -6,9 +6,10 @@ ghost use Rattle.h5_base.specs.declared.refusal.Refusal.TheVariants.{Malformed};
 ghost use Rattle.file_model.specs.RefusedChunks.{AreOffsetsRefused};
 ghost use Rattle.storage_reader.specs.Ends.{AreEnds, AreSpanned, HaveEnds, IsInPlace};
 
+use crate::child::Child;
 use dtype::Dims;
 use h5_base::NoMemory;
-use node_codec::{ChunkKey, ChunkNode};
+use node_codec::ChunkNode;
 use std::alloc::Global;
 use std::cmp::Ordering;
 
@@ -66,12 +67,13 @@ fn is_from(is_first: bool, low: &Dims, ends: &Ends) -> bool
 }
 
 // Whether the key behind child i is above each offset under it, or is free, as it is behind the last child.
-fn is_below(i: usize, children: &[u64], high: &Dims, ends: &Ends) -> bool
-    requires { i < length children.now }
+fn is_below(node: &ChunkNode, i: usize, high: &Dims, ends: &Ends) -> bool
+    requires { i < length node.now.children }
     ensures { (cs : List Chunk) → AreEnds ends.now.first ends.now.last cs → AreAscending cs
-        → (IsTrue result ↔ IsBelow (drop (i + 1) children.now) high.now cs) }
+        → (IsTrue result ↔ IsBelow (drop (i + 1) node.now.children) high.now cs) }
 {
-    i + 1 == children.len() || comes_before(&ends.last, high)
+    let count = node.children.len();
+    i + 1 == count || comes_before(&ends.last, high)
 }
 
 // Whether the offsets under a child follow those before them.
@@ -85,29 +87,30 @@ fn follows(before: &Option<Ends>, ends: &Ends) -> bool
     }
 }
 
-// Whether the offsets under child i stand between the keys on both sides of it and behind the offsets before them.
+// Whether the offsets under child i of a node stand between the keys on both sides of it and behind the offsets before
+// them.
 pub(crate) fn is_in_place(
+    node: &ChunkNode,
     i: usize,
-    children: &[u64],
-    low: &ChunkKey,
-    high: &ChunkKey,
+    child: Child,
     before: &Option<Ends>,
     here: &Option<Ends>,
 ) -> bool
-    requires { i < length children.now }
+    requires { i < length node.now.children }
     ensures yes { IsTrue result → (done cs : List Chunk) → AreSpanned before.now done → AreSpanned here.now cs
-        → IsInPlace (i == 0) low.now.offset high.now.offset (drop (i + 1) children.now) done cs }
+        → IsInPlace (i == 0) child.entry.low.now.offset child.entry.high.now.offset (drop (i + 1) node.now.children)
+        done cs }
     ensures no { result ≡ false → (done cs : List Chunk) → AreSpanned before.now done → AreSpanned here.now cs
-        → (node : ℕ) → AreOffsetsRefused node (i == 0) low.now.offset high.now.offset (drop (i + 1) children.now) done cs
-        (Malformed node Tree) }
+        → (at : ℕ) → AreOffsetsRefused at (i == 0) child.entry.low.now.offset child.entry.high.now.offset
+        (drop (i + 1) node.now.children) done cs (Malformed at Tree) }
 {
     let Some(ends) = here else {
         return true;
     };
-    if !is_from(i == 0, &low.offset, ends) {
+    if !is_from(i == 0, &child.low.offset, ends) {
         return false;
     }
-    if !is_below(i, children, &high.offset, ends) {
+    if !is_below(node, i, &child.high.offset, ends) {
         return false;
     }
     follows(before, ends)

@@ -2,6 +2,7 @@
 //! dataset, or the nodes and chunks of a chunk index. No element is read.
 #![tactic(auto)]
 
+mod child;
 mod chunks;
 mod ends;
 mod form;

@@ -8,6 +8,7 @@ ghost use Rattle.storage_reader.specs.Forms.{IsForm};
 ghost use Rattle.storage_reader.specs.Nodes.{AreUnder, IsIndexAt, IsIndexRefused, IsNodeAt, IsUnderRefused};
 ghost use Rattle.storage_reader.specs.Nodes.{IsWholeIndex, IsWholeRefused, node_block};
 
+use crate::child::child_of;
 use crate::chunks::adopt_chunks;
 use crate::ends::{Ends, ends_of, is_in_place, join};
 use crate::form::Form;
@@ -97,15 +98,11 @@ fn adopt_nodes<V: Space>(
     ensures failed { IsErrOf result Stop.Failed
         → OneRose (V.faults (space_of blocks.old)) (V.faults (space_of blocks.new)) }
 {
-    let level = node.level - 1;
-    let keys = node.keys.as_slice();
-    let children = node.children.as_slice();
     let mut before = None;
-    for (i, child) in children.iter().enumerate() {
-        let low = &keys[i];
-        let high = &keys[i + 1];
-        let here = adopt_node(alloc, blocks, *child, level, form)?;
-        if !is_in_place(i, children, low, high, &before, &here) {
+    for i in 0..node.children.len() {
+        let child = child_of(node, i);
+        let here = adopt_node(alloc, blocks, child.at, node.level - 1, form)?;
+        if !is_in_place(node, i, child, &before, &here) {
             return Err(Stop::malformed(at, BlockKind::Tree));
         }
         before = join(before, here);

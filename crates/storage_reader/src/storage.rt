@@ -51,7 +51,8 @@ pub fn adopt_storage<V: Space>(
     requires fits { FitsFile elements.shape.now.dims (size_of elements.elem) }
     requires stored { IsOfShape (length elements.shape.now.dims) (size_of elements.elem) elements.layout.now }
     requires layout { IsLayout elements.layout.now }
-    ensures found { IsTrue V.tells → OnOk result ((i : DataInfo) → AreOf i elements.entry → Takes V.view blocks.old blocks.new
+    ensures found { IsTrue V.tells → OnOk result ((i : DataInfo) → AreOf i elements.entry
+        → Takes V.view blocks.old blocks.new
         (λ bs. (cs : List Chunk) × IsStoredBy (array_of V.view blocks.old) k i i.layout cs bs)) }
     ensures refused { IsTrue V.tells → IfErr result (λ stop. (i : DataInfo) → AreOf i elements.entry
         → Refuses V.view blocks.old (λ e. IsStorageRefused (array_of V.view blocks.old) e k i) stop) }

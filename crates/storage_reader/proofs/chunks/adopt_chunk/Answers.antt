@@ -4,8 +4,8 @@ use Rattle.dtype.specs.Products.{product}
 use Rattle.h5_base.specs.declared.kinds.BlockKind.TheVariants.{Raw}
 use Rattle.file_model.specs.RefusedChunks.{IsChunkRefused, WrongBytes, WrongOffset}
 use Rattle.storage_reader.proofs.ChunkSizes.{some_bytes}
-use Rattle.storage_reader.proofs.LeafRead.{accepted_chunk, chunk_block}
-use Rattle.storage_reader.proofs.Parts.{accepted, handed, refuses_as}
+use Rattle.storage_reader.proofs.LeafRead.{taken_chunk, chunk_block}
+use Rattle.storage_reader.proofs.Parts.{handed, refuses_as, taken}
 use Rattle.storage_reader.proofs.chunks.adopt_chunk.Goals as goal
 
 pub adopt-requires-clause-some : goal.adopt-requires-clause-some
@@ -25,8 +25,8 @@ returns-then-from-form-clause-refused g c = λ met own keeps.
     let block : Block = record { start = c.args.at; len = f.bytes } in
     let other : c.args.key.now.bytes ≢ product f.sizes = λ is. omega (arith, is, c.requires.form.bytes_is) in
     rw c.malformed.ensures
-    (WrongBytes (accepted_chunk _ met c.args.at f.bytes f.sizes c.requires.form.bytes_is
-    (accepted g.V.Space.view c.args.blocks.now c.adopt.new.self met (block ∷ []) block Raw own (ap g.V.Space.view (sym c.adopt.ensures.space)) refl (c.in_ok-adopt.ensures.found met keeps))) other refl)
+    (WrongBytes (taken_chunk _ met c.args.at f.bytes f.sizes c.requires.form.bytes_is
+    (taken g.V.Space.view c.args.blocks.now c.adopt.new.self met (block ∷ []) own (ap g.V.Space.view (sym c.adopt.ensures.space)) (c.in_ok-adopt.ensures.found met keeps))) other refl)
 
 pub returns-then-not-are_multiples-clause-refused : goal.returns-then-not-are_multiples-clause-refused
 returns-then-not-are_multiples-clause-refused g c = λ met own keeps.
@@ -34,8 +34,8 @@ returns-then-not-are_multiples-clause-refused g c = λ met own keeps.
     let block : Block = record { start = c.args.at; len = f.bytes } in
     let bytes : c.args.key.now.bytes ≡ product f.sizes = omega (arith, c.requires.form.bytes_is) in
     rw c.malformed-then-not-are_multiples.ensures
-    (WrongOffset (accepted_chunk _ met c.args.at f.bytes f.sizes c.requires.form.bytes_is
-    (accepted g.V.Space.view c.args.blocks.now c.adopt.new.self met (block ∷ []) block Raw own (ap g.V.Space.view (sym c.adopt.ensures.space)) refl (c.in_ok-adopt.ensures.found met keeps))) bytes
+    (WrongOffset (taken_chunk _ met c.args.at f.bytes f.sizes c.requires.form.bytes_is
+    (taken g.V.Space.view c.args.blocks.now c.adopt.new.self met (block ∷ []) own (ap g.V.Space.view (sym c.adopt.ensures.space)) (c.in_ok-adopt.ensures.found met keeps))) bytes
     (λ m. let yes = c.are_multiples.ensures.1 (rw (c.as_slice.ensures, c.as_slice-2.ensures, c.requires.rank) m) in cc) refl)
 
 pub returns-clause-found : goal.returns-clause-found

@@ -2,6 +2,6 @@ use Rattle.std.proofs.Common.{◌+◌, arith}
 use Rattle.storage_reader.proofs.Places.{below_tested}
 use Rattle.storage_reader.proofs.ends.is_below.Goals as goal
 
-pub returns-else-i-children : goal.returns-else-i-children
-returns-else-i-children c =
-    below_tested c.args.children.now (c.args.i + 1) c.args.high.now c.args.ends.now.first c.args.ends.now.last c.comes_before.result c.comes_before.ensures (omega arith)
+pub returns-else-i-count : goal.returns-else-i-count
+returns-else-i-count c =
+    below_tested c.args.node.now.children (c.args.i + 1) c.args.high.now c.args.ends.now.first c.args.ends.now.last c.comes_before.result c.comes_before.ensures (omega arith)

@@ -19,7 +19,7 @@ decreases-adopt_nodes g l = 3 * l.node.now.level
 abbrev pub invariant-adopt_nodes-loop-i : goal.invariant-adopt_nodes-loop-i
 invariant-adopt_nodes-loop-i g l = record {
   read : IsTrue g.V.Space.tells → Takes g.V.Space.view l.initial.blocks l.blocks
-      (Spans (AreRead (child_at (array_of g.V.Space.view l.initial.blocks) l.form l.node.level) (refused_child (array_of g.V.Space.view l.initial.blocks) l.form l.node.level l.fn.at) l.fn.at l.node.keys l.node.children l.i) l.before);
+      (Spans (AreRead (child_at (array_of g.V.Space.view l.initial.blocks) l.form l.node.level) (refused_child (array_of g.V.Space.view l.initial.blocks) l.form l.node.level l.fn.at) l.fn.at l.node l.i) l.before);
   alike : g.V.Kept.Alike (space_of l.initial.blocks) (space_of l.blocks);
   listed : (met : List Block) × Keeps g.V.Space.view l.blocks met;
 }

@@ -1,5 +1,4 @@
 use Rattle.std.proofs.Common.{◌≡◌, ◌∷◌, [], sym, subst}
-use Rattle.h5_base.specs.declared.kinds.BlockKind.TheVariants.{Tree}
 use Rattle.outside.specs.Space.{SpaceView}
 use Rattle.outside.proofs.Causes.{one_later}
 use Rattle.block_space.specs.Blocks.{Refuses, Takes, array_of, space_of}
@@ -7,7 +6,7 @@ use Rattle.file_model.specs.RefusedChunks.{chunk_level}
 use Rattle.storage_reader.specs.Ends.{Spans}
 use Rattle.storage_reader.specs.Nodes.{AreUnder, IsUnderRefused, IsWholeIndex, IsWholeRefused, node_block}
 use Rattle.storage_reader.proofs.NodeLaws.{children_stopped, whole, root_level}
-use Rattle.storage_reader.proofs.Parts.{accepted, failed_on, handed, refuses_then, takes_then}
+use Rattle.storage_reader.proofs.Parts.{failed_on, handed, refuses_then, taken, takes_then}
 use Rattle.storage_reader.proofs.nodes.adopt_index.Goals as goal
 
 pub returns-in_err-adopt_children-clause-refused : goal.returns-in_err-adopt_children-clause-refused
@@ -22,7 +21,7 @@ returns-in_err-adopt_children-clause-refused g c = λ tells.
     (refuses_then g.V.Space.view c.args.blocks.now c.take_node.new.blocks (λ bs. bs ≡ node_block f c.args.at ∷ []) (IsUnderRefused b f c.args.at n) (IsWholeRefused b f c.args.at) stop e c.in_ok-node.ensures.kept
     (subst (λ (v : SpaceView). Refuses g.V.Space.view c.take_node.new.blocks (IsUnderRefused v.array f c.args.at n) stop) (sym e) (c.in_err-adopt_children.ensures.refused tells))
     (λ met own xs r is kept x. children_stopped b f (chunk_level b f.k f.rank c.args.at) c.args.at n _ met xs r
-    (accepted g.V.Space.view c.args.blocks.now c.take_node.new.blocks met xs (node_block f c.args.at) Tree own e is kept) spelled (root_level b f c.args.at n spelled) is x))
+    (taken g.V.Space.view c.args.blocks.now c.take_node.new.blocks met xs own e kept) spelled (root_level b f c.args.at n spelled) is x))
 
 pub returns-in_err-adopt_children-clause-failed : goal.returns-in_err-adopt_children-clause-failed
 returns-in_err-adopt_children-clause-failed g c =

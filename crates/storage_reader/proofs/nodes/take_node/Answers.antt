@@ -6,7 +6,7 @@ use Rattle.node_codec.specs.ChunkNodes.{SpellsChunkNode}
 use Rattle.block_space.specs.Blocks.{Keeps, array_of}
 use Rattle.storage_reader.specs.Nodes.{IsIndexRefused, node_block}
 use Rattle.storage_reader.proofs.NodeLaws.{no_node, node_block_refused}
-use Rattle.storage_reader.proofs.Parts.{accepted, handed, refuses_as}
+use Rattle.storage_reader.proofs.Parts.{handed, refuses_as, taken}
 use Rattle.storage_reader.proofs.nodes.take_node.Goals as goal
 
 pub returns-in_err-bytes-clause-refused : goal.returns-in_err-bytes-clause-refused
@@ -26,5 +26,5 @@ returns-in-Err-NotThis-clause-refused g c = λ tells level met own keeps.
     let read = c.as_slice.ensures.value ∙ c.in_ok-bytes.ensures.bytes tells ∙ ap (bytes_of b c.args.at) c.chunk_node_size-size.ensures in
     let kept : Keeps g.V.Space.view c.adopt_bytes.new.self (met ++ block ∷ []) = rw (← c.chunk_node_size-size.ensures) (c.in_ok-bytes.ensures.found met keeps) in
     rw c.malformed.ensures
-    (no_node b f level c.args.at _ met (accepted g.V.Space.view c.args.blocks.now c.adopt_bytes.new.self met (block ∷ []) block Tree own (g.met.V.Space.alike _ _ c.adopt_bytes.ensures.alike) refl kept)
+    (no_node b f level c.args.at _ met (block ∷ []) (taken g.V.Space.view c.args.blocks.now c.adopt_bytes.new.self met (block ∷ []) own (g.met.V.Space.alike _ _ c.adopt_bytes.ensures.alike) kept) refl
     (λ n spelled is. c.read_chunk_node.ensures.only (cc) n (subst (SpellsChunkNode f.k f.rank n) (sym read) spelled)))
