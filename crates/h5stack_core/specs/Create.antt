@@ -3,7 +3,7 @@
 use Rattle.std.specs.Prelude.{◌≡◌, ℕ, ◌<◌, Bool, IsTrue, List, [], length, ◌++◌, codes}
 use Rattle.outside.specs.Files.{RestsAt}
 use Rattle.empty_file.specs.Empty.{empty_file}
-use Rattle.printing.specs.Written.{WrittenInPart}
+use Rattle.script_lines.specs.Written.{WrittenInPart}
 use Rattle.h5stack_core.specs.Stores.{Telling, Moment}
 use Rattle.h5_base.specs.declared.refusal.Refusal.TheVariants.{Exists}
 use Rattle.h5stack_core.specs.declared.ending.Ending.{Ending}
