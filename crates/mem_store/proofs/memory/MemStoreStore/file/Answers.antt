@@ -1,5 +1,5 @@
-use Rattle.std.proofs.Common.{◌≡◌}
-use Rattle.mem_store.specs.Held.{asked, added}
+use Rattle.std.proofs.Common.{◌≡◌, []}
+use Rattle.mem_store.specs.Held.{asked, with_new}
 use Rattle.mem_store.specs.Memory.{held}
 use Rattle.mem_store.proofs.MemoryLemmas.{sound, asked_gives, asked_same, asked_calls, on_new}
 use Rattle.mem_store.proofs.memory.MemStoreStore.file.Goals as goal
@@ -35,4 +35,4 @@ returns-clause-call c = asked_calls c.args.name.now (held c.args.self.now) (held
 })
 
 pub returns-clause-new : goal.returns-clause-new
-returns-clause-new c = on_new c.args.name.now (held c.args.self.now).names (held c.ask.new.self ≡ added c.args.name.now (asked (held c.args.self.now))) c.ask.result c.ask.ensures.new
+returns-clause-new c = on_new c.args.name.now (held c.args.self.now).ids.names (held c.ask.new.self ≡ with_new c.args.name.now [] (asked (held c.args.self.now))) c.ask.result c.ask.ensures.new
