@@ -2,7 +2,6 @@
 use Rattle.std.proofs.Common.{◌≡◌, ℕ, ◌<◌, true, false, Some, None, Result, Ok, Err, OnOk, OnErr, List, [], length, get_or, set, refl, sym, ◌∙◌, ap, subst, arith, inl, inr, get_or-set_other, get_or-set_same}
 use Rattle.std.proofs.lemmas.Bool.{cases_lt, false≢true}
 use Rattle.std.specs.Prelude.{IsErr}
-use Rattle.outside.specs.Files.{WrittenInPart, ResizedInPart}
 use Rattle.outside.specs.Store.{Calls, Gives, SameIds}
 use Rattle.file_ids.specs.Ids.{place_of, told}
 use Rattle.file_ids.proofs.PlaceLemmas.{placed, place_of-le}
@@ -75,29 +74,6 @@ fault_files op i a q = refl
 pub changes_failed : {T E : Type 0} (op : Op) (i : ℕ) (done a b : Held) (r : Result T E) → Changes op i a done b r → (q : List ℕ) → OnErr r ((view b).files q ≡ (view a).files q)
 changes_failed op i done a b (Ok y) answers q = tt
 changes_failed op i done a b (Err e) answers q = ap (λ (h : Held). (view h).files q) answers.err ∙ fault_files op i a q
-
-written_none : (at n : ℕ) (f g : List ℕ) → g ≡ f → WrittenInPart at n f g
-written_none at n f g is = record {
-  no_shorter = omega (arith, ap length is);
-  no_longer = omega (arith, ap length is);
-  below = λ i lt. ap (λ (l : List ℕ). get_or l i 0) is;
-  above = λ i lt. ap (λ (l : List ℕ). get_or l i 0) is;
-}
-
-resized_none : (n : ℕ) (f g : List ℕ) → g ≡ f → ResizedInPart n f g
-resized_none n f g is = record {
-  no_shorter = omega (arith, ap length is);
-  no_longer = omega (arith, ap length is);
-  each = λ i lt. ap (λ (l : List ℕ). get_or l i 0) is;
-}
-
-pub written_in_part : {T E : Type 0} (at n : ℕ) (f g : List ℕ) (r : Result T E) → OnErr r (g ≡ f) → OnErr r (WrittenInPart at n f g)
-written_in_part at n f g (Ok x) same = tt
-written_in_part at n f g (Err e) same = written_none at n f g same
-
-pub resized_in_part : {T E : Type 0} (n : ℕ) (f g : List ℕ) (r : Result T E) → OnErr r (g ≡ f) → OnErr r (ResizedInPart n f g)
-resized_in_part n f g (Ok x) same = tt
-resized_in_part n f g (Err e) same = resized_none n f g same
 
 pub on_ok : {T E : Type 0} (f x y : List ℕ) (r : Result T E) → x ≡ y → OnOk r (f ≡ x) → OnOk r (f ≡ y)
 on_ok f x y (Ok v) is same = same ∙ is

@@ -5,6 +5,7 @@ ghost use Rattle.outside.specs.Files.{written, resized};
 ghost use Rattle.file_ids.specs.Ids.{AreSound, place_of};
 ghost use Rattle.mem_store.specs.Held.{IsAt, first_bytes};
 
+use crate::arena::copy_from;
 use crate::given::{Fail, NamedBytes, Room};
 use crate::table::{Op, Table};
 use file_ids::{FileIds, one_more};
@@ -26,17 +27,6 @@ pub struct MemStore {
     ghost ready: { room.bytes ≤ vec_capacity table.bytes },
     ghost sound: { AreSound ids },
     ghost each: { length table.entries.items ≡ length ids.names },
-}
-
-// Copies what stands from an offset on, as much as there is room for.
-fn copy_from(bytes: &[u8], at: usize, out: &mut [u8]) -> usize
-    ensures count { result ≤ length out.old }
-    ensures bytes { take result out.new ≡ take (length out.old) (drop at bytes.now) }
-{
-    let from = at.min(bytes.len());
-    let n = out.len().min(bytes.len() - from);
-    out[..n].copy_from_slice(&bytes[from..from + n]);
-    n
 }
 
 fn is_at(fail: &Fail, name: &Name, op: Op, before: u64) -> bool

@@ -1,5 +1,4 @@
-ghost use Rattle.std.specs.Prelude.{◌≡◌, ◌↔◌, ◌⊎◌, ◌+◌, ℕ, List, IsTrue, Any, if◌then◌else◌, take, drop, length, ◌-◌};
-ghost use Rattle.std.specs.Prelude.{◌≤◌, min};
+ghost use Rattle.std.specs.Prelude.{◌≡◌, ◌↔◌, ◌⊎◌, ◌+◌, IsTrue, Any, if◌then◌else◌};
 ghost use Rattle.file_ids.specs.Ids.{one_more};
 
 use file_ids::one_more;
@@ -49,15 +48,4 @@ impl Calls {
         }
         fails
     }
-}
-
-/// Copies what stands from an offset on, as much as there is room for.
-pub fn copy_out(bytes: &[u8], at: usize, out: &mut [u8]) -> usize
-    requires { at ≤ length bytes.now }
-    ensures count { result ≡ min (length out.old) (length bytes.now - at) }
-    ensures bytes { take result out.new ≡ take result (drop at bytes.now) }
-{
-    let n = out.len().min(bytes.len() - at);
-    out[..n].copy_from_slice(&bytes[at..at + n]);
-    n
 }

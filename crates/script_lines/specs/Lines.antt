@@ -46,11 +46,11 @@ pub record AreKept (piece : List ℕ) (at end taken : ℕ) (ended : Bool) : Type
   pub order : at ≤ end
   pub inside : end ≤ 8192
   pub counted : end - at ≤ taken
-  pub bounded : taken ≤ 4294967296
+  pub bounded : taken ≤ most_taken
   pub none : IsTrue ended → at ≡ end
-  pub fewer : IsTrue ended → taken < 4294967296
+  pub fewer : IsTrue ended → taken < most_taken
 
 -- The line has its room.
 pub record HasRoom (kept room : ℕ) : Type 0 where
-  pub short : kept ≤ 65537
-  pub has_room : 65537 ≤ room
+  pub short : kept ≤ most_kept
+  pub has_room : most_kept ≤ room
