@@ -14,11 +14,19 @@ bytes_same xs ys = go (bytes_eq xs ys) refl
     go true is = inl (is, (bytes_eq-Decides xs ys).0 is)
     go false is = inr (is, λ same. let yes : bytes_eq xs ys ≡ true = (bytes_eq-Decides xs ys).1 same in cc)
 
--- past the end nothing stands
-pub get_or-past : {A : Type 0} (xs : List A) (i : ℕ) (d : A) → length xs ≤ i → get_or xs i d ≡ d
-get_or-past [] i d past = refl
-get_or-past (x ∷ xs) zero d past = absurd (omega arith)
-get_or-past (x ∷ xs) (suc i) d past = get_or-past xs i d (omega arith)
+-- the default behind the end changes nothing
+pub last_default : {A : Type 0} (xs : List A) (i : ℕ) (d : A) → get_or (xs ++ d ∷ []) i d ≡ get_or xs i d
+last_default [] zero d = refl
+last_default [] (suc i) d = refl
+last_default (x ∷ xs) zero d = refl
+last_default (x ∷ xs) (suc i) d = last_default xs i d
+
+pub place_of-le : (ns : List (List ℕ)) (name : List ℕ) → place_of name ns ≤ length ns
+place_of-le [] name = omega arith
+place_of-le (n ∷ ns) name = elim (bytes_same name n) [
+  | inl same ↦ rw same.0 (omega arith)
+  | inr other ↦ rw other.0 (omega (arith, place_of-le ns name))
+]
 
 pub place_of-absent : (ns : List (List ℕ)) (name : List ℕ) → ((k : ℕ) → k < length ns → get_or ns k [] ≢ name) → place_of name ns ≡ length ns
 place_of-absent [] name none = refl
@@ -56,7 +64,7 @@ place_of-append_left q (x ∷ xs) ys lt = elim (bytes_same q x) [
       rw other.0 (ap suc (place_of-append_left q xs ys lt'))
 ]
 
-place_of-append_new : (q : List ℕ) (xs : List (List ℕ)) → place_of q xs ≡ length xs → place_of q (xs ++ q ∷ []) ≡ length xs
+pub place_of-append_new : (q : List ℕ) (xs : List (List ℕ)) → place_of q xs ≡ length xs → place_of q (xs ++ q ∷ []) ≡ length xs
 place_of-append_new q [] absent = rw ((bytes_eq-Decides q q).1 refl) refl
 place_of-append_new q (x ∷ xs) absent = elim (bytes_same q x) [
   | inl same ↦ let here : 0 ≡ length (x ∷ xs) = rw same.0 at absent in absurd (omega arith)

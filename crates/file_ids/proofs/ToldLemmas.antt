@@ -1,6 +1,8 @@
 -- What each step of the ids is to a store that tells them.
-use Rattle.std.proofs.Common.{◌≡◌, ◌≢◌, ℕ, zero, suc, ◌+◌, ◌^◌, ◌<◌, ◌≤◌, Bool, false, IsTrue, Option, Some, None, List, [], ◌∷◌, ◌++◌, length, get_or, set, refl, sym, ◌∙◌, ap, arith, inl, inr, length-append, get_or-set_other, get_or-set_same}
+use Rattle.std.proofs.Common.{◌≡◌, ◌≢◌, ℕ, zero, suc, ◌+◌, ◌<◌, ◌≤◌, Bool, false, IsTrue, Option, Some, None, List, [], ◌∷◌, ◌++◌, length, get_or, set, refl, sym, ◌∙◌, ap, arith, inl, inr, length-append, get_or-set_other, get_or-set_same}
 use Rattle.std.proofs.lemmas.Bool.{cases_lt, cases_eq, false≢true}
+use Rattle.std.proofs.lemmas.Bool.Decides.{nat_tests}
+use Rattle.std.proofs.lemmas.List.{get_or_past}
 use Rattle.std.proofs.Math.ListN.{get_or-append}
 use Rattle.std.proofs.Math.Seq.{get_or-append_seam}
 use Rattle.std.proofs.lemmas.List.FromFn.{length-range_with_len, get_or-range_with_len}
@@ -9,7 +11,13 @@ use Rattle.outside.specs.Causes.{Rose}
 use Rattle.outside.specs.Files.{Files}
 use Rattle.outside.specs.Store.{Calls, Gives, SameIds, AreIds}
 use Rattle.file_ids.specs.Ids.{Ids, AreSound, Counts, place_of, one_more, struck, struck_own, added, counts_of, told}
-use Rattle.file_ids.proofs.PlaceLemmas.{get_or-past, placed}
+use Rattle.file_ids.proofs.PlaceLemmas.{last_default, placed}
+
+pub one_more-later : (n : ℕ) → n ≤ one_more n
+one_more-later n = grind (arith, nat_tests)
+
+pub one_more-rose : (n : ℕ) → Rose n (one_more n)
+one_more-rose n = grind (arith, nat_tests)
 
 pub calls_told : (tells : Bool) (own : Option ℕ) (Failed : Type 0) (Changed : List ℕ → Type 0) (a b : Ids) (m n : ℕ) (honest : Bool) (f g : Files)
     → Counts own Failed a b → m ≤ n → (IsTrue tells → (q : List ℕ) → (Changed q → ⊥) → g q ≡ f q)
@@ -39,20 +47,20 @@ counts_same own Failed a fine = record {
   counts = λ k other. refl;
 }
 
-pub counts_struck : (i : ℕ) (Failed : Type 0) (a : Ids) → i < length a.faults → get_or a.faults i 0 < 2 ^ 64 → Counts (Some i) Failed a (struck i a)
-counts_struck i Failed a lt fits = record {
+pub counts_struck : (i : ℕ) (Failed : Type 0) (a : Ids) → i < length a.faults → Counts (Some i) Failed a (struck i a)
+counts_struck i Failed a lt = record {
   later = later;
   failed = λ f. rose;
   counts = others;
 }
   where
     rose : Rose (get_or a.faults i 0) (get_or (set a.faults i (one_more (get_or a.faults i 0))) i 0)
-    rose = rw get_or-set_same (omega arith)
+    rose = rw get_or-set_same (one_more-rose (get_or a.faults i 0))
 
     later : (k : Option ℕ) → counts_of a.own a.faults k ≤ counts_of a.own (set a.faults i (one_more (get_or a.faults i 0))) k
     later None = omega arith
     later (Some k) = elim (cases_eq k i) [
-      | inl same ↦ rw (same, get_or-set_same) (omega (arith, fits))
+      | inl same ↦ rw (same, get_or-set_same) (one_more-later (get_or a.faults i 0))
       | inr other ↦ rw get_or-set_other (omega arith)
     ]
 
@@ -60,30 +68,20 @@ counts_struck i Failed a lt fits = record {
     others None other = refl
     others (Some k) other = let apart : k ≢ i = λ same. other (ap Some same) in get_or-set_other a.faults i k (one_more (get_or a.faults i 0)) 0 apart
 
-pub counts_struck_own : (Failed : Type 0) (a : Ids) → a.own < 2 ^ 64 → Counts None Failed a (struck_own a)
-counts_struck_own Failed a fits = record {
+pub counts_struck_own : (Failed : Type 0) (a : Ids) → Counts None Failed a (struck_own a)
+counts_struck_own Failed a = record {
   later = later;
-  failed = λ f. rose;
+  failed = λ f. one_more-rose a.own;
   counts = others;
 }
   where
-    rose : Rose a.own (one_more a.own)
-    rose = omega arith
-
     later : (k : Option ℕ) → counts_of a.own a.faults k ≤ counts_of (one_more a.own) a.faults k
-    later None = omega (arith, fits)
+    later None = one_more-later a.own
     later (Some k) = omega arith
 
     others : (k : Option ℕ) → k ≢ None → counts_of (one_more a.own) a.faults k ≡ counts_of a.own a.faults k
     others None other = absurd (other refl)
     others (Some k) other = refl
-
--- the default behind the end changes nothing
-last_default : (xs : List ℕ) (i : ℕ) → get_or (xs ++ 0 ∷ []) i 0 ≡ get_or xs i 0
-last_default [] zero = refl
-last_default [] (suc i) = refl
-last_default (x ∷ xs) zero = refl
-last_default (x ∷ xs) (suc i) = last_default xs i
 
 pub counts_added : (Failed : Type 0) (name : List ℕ) (a : Ids) → (Failed → ⊥) → Counts None Failed a (added name a)
 counts_added Failed name a fine = record {
@@ -94,14 +92,14 @@ counts_added Failed name a fine = record {
   where
     same : (k : Option ℕ) → counts_of a.own (a.faults ++ 0 ∷ []) k ≡ counts_of a.own a.faults k
     same None = refl
-    same (Some k) = last_default a.faults k
+    same (Some k) = last_default a.faults k 0
 
 -- an id that has a name is one of them
 pub within : (a : Ids) (i m : ℕ) (honest : Bool) (f : Files) → 0 < length ((told a m honest f).names i) → i < length a.names
 unfolding told
 within a i m honest f given = elim (cases_lt i (length a.names)) [
   | inl lt ↦ lt
-  | inr past ↦ let none : length (get_or a.names i []) ≡ 0 = ap length (get_or-past a.names i [] past) in absurd (omega arith)
+  | inr past ↦ let none : length (get_or a.names i []) ≡ 0 = ap length (get_or_past a.names i [] past) in absurd (omega arith)
 ]
 
 pub gives_again : (name : List ℕ) (i : ℕ) (a : Ids) (m n : ℕ) (honest : Bool) (f g : Files) → AreSound a → 0 < length name → i < length a.names → place_of name a.names ≡ i
@@ -137,7 +135,7 @@ gives_added name a m n honest f g sound some absent = record {
       sym (sound.distinct k (within a k m honest f given)) ∙ ap (λ (n : List ℕ). place_of n a.names) is ∙ absent;
   others = λ k other. elim (cases_lt k (length a.names)) [
     | inl lt ↦ get_or-append a.names (name ∷ []) [] k lt
-    | inr past ↦ get_or-past (a.names ++ name ∷ []) k [] (omega (arith, length-append a.names (name ∷ []))) ∙ sym (get_or-past a.names k [] past)
+    | inr past ↦ get_or_past (a.names ++ name ∷ []) k [] (omega (arith, length-append a.names (name ∷ []))) ∙ sym (get_or_past a.names k [] past)
   ];
   was = λ given. absurd (omega (arith, within a (length a.names) m honest f given));
   ids = let e : length (a.names ++ name ∷ []) ≡ length a.names + 1 = omega (arith, length-append a.names (name ∷ [])) in
@@ -167,7 +165,7 @@ ids_stand a m honest f sound = record {
         | inl lt ↦ absurd (none i (rw length-range_with_len lt) (here i lt))
         | inr past ↦ past
       ] in
-      (get_or-past a.names i [] past, get_or-past a.faults i 0 (omega (arith, sound.faults)));
+      (get_or_past a.names i [] past, get_or_past a.faults i 0 (omega (arith, sound.faults)));
 }
   where
     here : (k : ℕ) → k < length a.names → get_or (range_with_len 0 (length a.names)) k 0 ≡ k

@@ -1,7 +1,7 @@
 -- The ids of a store as lists: an id is the place of its file's name.
 -- Cited by the stores, whose names and counts of faults are told by these lists.
 use Rattle.std.specs.Prelude.{◌≡◌, ℕ, suc, ◌+◌, ◌-◌, ◌^◌, ◌<◌, ◌≤◌, ◌≢◌, Bool, List, [], ◌∷◌, ◌++◌, length, slice_set}
-use Rattle.std.specs.Prelude.{slice_index, slice_index_or, min, Option, Some, None, if◌then◌else◌}
+use Rattle.std.specs.Prelude.{slice_index, slice_index_or, nat_lt, Option, Some, None, if◌then◌else◌}
 use Rattle.std.specs.List.{range_with_len}
 use Rattle.std.specs.Str.{bytes_eq}
 use Rattle.outside.specs.Causes.{Rose}
@@ -28,8 +28,9 @@ pub record AreSound (ids : Ids) : Type 0 where
   pub named : (i : ℕ) → i < length ids.names → 0 < length (slice_index_or ids.names i [])
   pub faults : length ids.faults ≡ length ids.names
 
+-- one more, where the type has room
 abbrev pub one_more : ℕ → ℕ
-one_more n = min (n + 1) (2 ^ 64 - 1)
+one_more n = if nat_lt n (2 ^ 64 - 1) then n + 1 else n
 
 -- a call on this id failed
 abbrev pub struck : ℕ → Ids → Ids

@@ -1,8 +1,8 @@
 //! The ids that a store gives to its files, and its counts of faults.
 #![tactic(auto)]
 
-ghost use Rattle.std.specs.Prelude.{◌≡◌, ◌<◌, ◌^◌, [], IfOk, OnErr, MatchOption, length, slice_index, slice_index_or};
-ghost use Rattle.file_ids.specs.Ids.{Ids, AreSound, no_ids, place_of, struck, struck_own, added};
+ghost use Rattle.std.specs.Prelude.{◌≡◌, ◌<◌, [], IfOk, OnErr, MatchOption, length, slice_index, slice_index_or};
+ghost use Rattle.file_ids.specs.Ids.{Ids, AreSound, no_ids, one_more, place_of, struck, struck_own, added};
 
 use h5_base::{Name, NoMemory};
 use std::alloc::Global;
@@ -25,6 +25,13 @@ impl Model for FileIds {
     ghost view = { λ t. record { names = t.names.items; faults = t.faults.items; own = t.own } };
 
     ghost invariant = { λ t. AreSound (record { names = t.names.items; faults = t.faults.items; own = t.own }) };
+}
+
+/// One more, where the type has room.
+pub fn one_more(count: u64) -> u64
+    ensures { result ≡ one_more count }
+{
+    count.saturating_add(1)
 }
 
 fn place(names: &[Name], name: &Name) -> Option<usize>
@@ -86,6 +93,13 @@ impl FileIds {
         self.faults[id]
     }
 
+    /// How often asking for an id has failed.
+    pub fn own_faults(&self) -> u64
+        ensures { result ≡ self.now.own }
+    {
+        self.own
+    }
+
     /// A new id, for a name that has none yet.
     pub fn add(&mut self, name: Name) -> Result<usize, NoMemory>
         requires { place_of name self.old.names ≡ length self.old.names }
@@ -115,19 +129,16 @@ impl FileIds {
     pub fn count_fault(&mut self, id: usize)
         requires { id < length self.old.names }
         ensures struck { self.new ≡ struck id self.old }
-        ensures fits { slice_index self.old.faults id < 2 ^ 64 }
         ensures sound { AreSound self.new }
     {
-        let count = self.faults[id];
-        self.faults[id] = count.saturating_add(1);
+        self.faults[id] = one_more(self.faults[id]);
     }
 
     /// Counts a fault of asking for an id.
     pub fn count_own(&mut self)
         ensures struck { self.new ≡ struck_own self.old }
-        ensures fits { self.old.own < 2 ^ 64 }
         ensures sound { AreSound self.new }
     {
-        self.own = self.own.saturating_add(1);
+        self.own = one_more(self.own);
     }
 }

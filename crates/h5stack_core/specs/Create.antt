@@ -4,7 +4,7 @@ use Rattle.std.specs.Prelude.{◌≡◌, ℕ, ◌<◌, Bool, IsTrue, List, [], l
 use Rattle.outside.specs.Files.{Files, RestsAt}
 use Rattle.outside.specs.Store.{GoesOver}
 use Rattle.empty_file.specs.Empty.{empty_file}
-use Rattle.printing.specs.Written.{WrittenInPart}
+use Rattle.script_lines.specs.Written.{WrittenInPart}
 use Rattle.h5stack_core.specs.Stores.{Telling, Moment}
 use Rattle.h5_base.specs.declared.refusal.Refusal.TheVariants.{Exists}
 use Rattle.h5stack_core.specs.declared.ending.Ending.{Ending}

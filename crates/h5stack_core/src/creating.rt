@@ -12,7 +12,7 @@ use crate::ending::{Ending, Performed};
 use empty_file::{EMPTY_LEN, write_empty_file};
 use h5_base::{Name, Refusal};
 use outside::{Failed, FileId, FileStop, Sink, Store};
-use printing::print;
+use script_lines::print;
 
 /// Why no file was created.
 #[derive(Clone, Copy, Debug, PartialEq, Eq)]

@@ -6,7 +6,7 @@ ghost use Rattle.h5stack_core.specs.Endings.{IsRefusal, told};
 use crate::ending::Ending;
 use crate::words::WordFault;
 use outside::Sink;
-use printing::print;
+use script_lines::print;
 use std::alloc::{AllocError, Global};
 
 #[tactic(auto, unfolding(crate::specs::Words::usage_line))]

@@ -1,15 +1,9 @@
 -- A part of a list that is replaced.
 use Rattle.std.proofs.Common.{◌≡◌, ℕ, ◌+◌, ◌-◌, ◌<◌, ◌≤◌, max, List, ◌++◌, length, take, drop, replicate, sym, ◌∙◌, ap, arith, length-append, append_assoc, inl, inr}
 use Rattle.std.proofs.lemmas.Bool.{cases_lt}
-use Rattle.std.proofs.lemmas.List.{take-append-drop, take-take, drop-take, take_all, drop_all, length-take, length-drop, length-replicate, take-replicate, take-append-le, drop-append-le, append-nil}
-use Rattle.std.proofs.Math.Seq.{take-append-add, drop-append-add}
+use Rattle.std.proofs.lemmas.List.{take-take, take_all, drop_all, length-take, length-drop, length-replicate, take-replicate, take-append-le, drop-append-le, append-nil}
+use Rattle.std.proofs.Math.Seq.{take-add, take-append-add, drop-append-add}
 use Rattle.outside.specs.Files.{written, resized}
-
-pub take-add : (m n : ℕ) (b : List ℕ) → take (m + n) b ≡ take m b ++ take n (drop m b)
-take-add m n b =
-    sym (take-append-drop m (take (m + n) b))
-    ∙ ap (λ (l : List ℕ). l ++ drop m (take (m + n) b)) (take-take m (m + n) b (omega arith))
-    ∙ ap (λ (l : List ℕ). take m b ++ l) (drop-take m n b)
 
 part_length : (s len : ℕ) (b : List ℕ) → s + len ≤ length b → length (take len (drop s b)) ≡ len
 part_length s len b within = omega (arith, length-take len (drop s b), length-drop s b)

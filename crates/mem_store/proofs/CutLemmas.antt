@@ -1,6 +1,6 @@
--- A list in pieces of given lengths: each piece, one that is replaced, and one more that is empty.
-use Rattle.std.proofs.Common.{◌≡◌, ℕ, zero, suc, ◌+◌, ◌<◌, ◌≤◌, List, [], ◌∷◌, ◌++◌, length, take, drop, sum, get_or, set, refl, sym, ◌∙◌, ap, arith, append_assoc, add-zero}
-use Rattle.std.proofs.lemmas.List.{drop-drop, drop-take, take-take, take-append-le, drop-append-le, length-take, length-drop, take_at, drop_at}
+-- A list in pieces of given lengths: each piece, one that is replaced, and one more.
+use Rattle.std.proofs.Common.{◌≡◌, ℕ, zero, suc, ◌+◌, ◌<◌, ◌≤◌, List, [], ◌∷◌, ◌++◌, length, take, drop, sum, get_or, set, refl, sym, ◌∙◌, ap, arith, append_assoc}
+use Rattle.std.proofs.lemmas.List.{drop-drop, drop-take, take-take, take-append-le, drop-append-le, take_all, length-take, length-drop, take_at, drop_at}
 use Rattle.std.proofs.lemmas.List.Sums.{sum_by-cons, sum_by_more_le, sum_by-set, sum_by-append}
 use Rattle.std.specs.List.{sum_by}
 use Rattle.mem_store.specs.Table.{cut}
@@ -18,8 +18,8 @@ sum_part lens i lt = sum_by_more_le (λ (k : ℕ). k) lens i 0 lt
 pub sum-set : (lens : List ℕ) (i n : ℕ) → i < length lens → sum (set lens i n) + get_or lens i 0 ≡ sum lens + n
 sum-set lens i n lt = sum_by-set (λ (k : ℕ). k) lens i n 0 lt
 
-pub sum-append-zero : (lens : List ℕ) → sum (lens ++ 0 ∷ []) ≡ sum lens
-sum-append-zero lens = sum_by-append (λ (k : ℕ). k) lens (0 ∷ []) ∙ add-zero (sum lens)
+pub sum-append : (lens : List ℕ) (n : ℕ) → sum (lens ++ n ∷ []) ≡ sum lens + n
+sum-append lens n = omega (arith, sum_by-append (λ (k : ℕ). k) lens (n ∷ []))
 
 pub get_or-cut : (lens : List ℕ) (b : List ℕ) (i : ℕ) → i < length lens → get_or (cut lens b) i [] ≡ take (get_or lens i 0) (drop (sum (take i lens)) b)
 get_or-cut [] b i lt = absurd (omega arith)
@@ -29,9 +29,15 @@ get_or-cut (n ∷ lens) b (suc i) lt =
     ∙ ap (take (get_or lens i 0)) (drop-drop (sum (take i lens)) n b)
     ∙ ap (λ (k : ℕ). take (get_or lens i 0) (drop k b)) (sym (sum-cons n (take i lens)))
 
-pub cut-append-zero : (lens : List ℕ) (b : List ℕ) → cut (lens ++ 0 ∷ []) b ≡ cut lens b ++ [] ∷ []
-cut-append-zero [] b = refl
-cut-append-zero (n ∷ lens) b = ap (λ (l : List (List ℕ)). take n b ∷ l) (cut-append-zero lens (drop n b))
+-- one piece more
+pub cut-append : (lens b x : List ℕ) → sum lens ≡ length b → cut (lens ++ length x ∷ []) (b ++ x) ≡ cut lens b ++ x ∷ []
+cut-append [] [] x full = ap (λ (l : List ℕ). l ∷ []) (take_all (length x) x (omega arith))
+cut-append [] (y ∷ b) x full = absurd (omega arith)
+cut-append (n ∷ lens) b x full =
+    let size : n ≤ length b = omega (arith, sum-cons n lens) in
+    let rest : sum lens ≡ length (drop n b) = omega (arith, sum-cons n lens, length-drop n b) in
+    (λ j. take-append-le n b x size j ∷ cut (lens ++ length x ∷ []) (drop-append-le n b x size j))
+    ∙ ap (λ (l : List (List ℕ)). take n b ∷ l) (cut-append lens (drop n b) x rest)
 
 -- one piece is replaced, in its place
 pub cut-set : (lens : List ℕ) (b : List ℕ) (i : ℕ) (x : List ℕ) → i < length lens → sum lens ≤ length b

@@ -1,20 +1,11 @@
 -- A table that is filled file by file shows the first file of each name.
-use Rattle.std.proofs.Common.{◌≡◌, ◌≢◌, ℕ, suc, ◌+◌, ◌<◌, ◌⊎◌, inl, inr, List, [], ◌∷◌, ◌++◌, length, map, get_or, set, refl, sym, ◌∙◌, ap, subst, arith, length-append}
+use Rattle.std.proofs.Common.{◌≡◌, ◌≢◌, ℕ, suc, ◌<◌, ◌⊎◌, inl, inr, List, [], ◌∷◌, ◌++◌, length, map, get_or, refl, sym, ◌∙◌, ap, subst, arith, length-append}
 use Rattle.std.proofs.lemmas.Bool.{cases_lt}
-use Rattle.std.proofs.lemmas.List.{get_or_past, get_or_append_left, get_or_push, set_at, drop_all, append-nil, map-append}
-use Rattle.outside.specs.Files.{written}
+use Rattle.std.proofs.lemmas.List.{get_or_past, get_or_append_left, get_or_push, map-append}
+use Rattle.file_ids.specs.Ids.{place_of}
+use Rattle.file_ids.proofs.PlaceLemmas.{bytes_same, place_of-le, place_of-append_left, place_of-append_new}
 use Rattle.mem_store.specs.declared.given.NamedBytes.{NamedBytes}
-use Rattle.mem_store.specs.Table.{place_of}
 use Rattle.mem_store.specs.Held.{file_of}
-use Rattle.mem_store.proofs.TableLemmas.{bytes_same, place_of-append_left, place_of-append_new}
-use Rattle.mem_store.proofs.ViewLemmas.{place_of-le}
-
--- a piece written into a new empty file
-pub filled : (cs : List (List ℕ)) (bytes : List ℕ) (i : ℕ) → length cs ≡ i → set (cs ++ [] ∷ []) i (written 0 bytes (get_or (cs ++ [] ∷ []) i [])) ≡ cs ++ bytes ∷ []
-filled cs bytes i last =
-    ap (λ (l : List ℕ). set (cs ++ [] ∷ []) i (written 0 bytes l)) (get_or_push cs [] [] i last)
-    ∙ ap (set (cs ++ [] ∷ []) i) (ap (λ (l : List ℕ). bytes ++ l) (drop_all (0 + length bytes) [] (omega arith)) ∙ append-nil bytes)
-    ∙ set_at cs [] [] bytes i last
 
 place_of-append_other : (q m : List ℕ) (ns : List (List ℕ)) → place_of q ns ≡ length ns → q ≢ m → place_of q (ns ++ m ∷ []) ≡ suc (length ns)
 place_of-append_other q m [] absent other = elim (bytes_same q m) [
@@ -39,7 +30,7 @@ pushed_known q m ns lt = elim (cases_lt (place_of q ns) (length ns)) [
   | inr past ↦ elim (is_same q m) [
     | inl same ↦ inr same
     | inr other ↦
-        let absent : place_of q ns ≡ length ns = omega (arith, place_of-le q ns) in
+        let absent : place_of q ns ≡ length ns = omega (arith, place_of-le ns q) in
         absurd (omega (arith, place_of-append_other q m ns absent other, length-append ns (m ∷ [])))
   ]
 ]
@@ -51,7 +42,7 @@ last_pushed : (q m : List ℕ) (ns : List (List ℕ)) → q ≡ m → place_of q
 last_pushed q m ns same = elim (cases_lt (place_of q ns) (length ns)) [
   | inl known ↦ known_pushed q m ns known
   | inr past ↦
-      let absent : place_of q ns ≡ length ns = omega (arith, place_of-le q ns) in
+      let absent : place_of q ns ≡ length ns = omega (arith, place_of-le ns q) in
       omega (arith, ap (λ (n : List ℕ). place_of q (ns ++ n ∷ [])) (sym same) ∙ place_of-append_new q ns absent, length-append ns (m ∷ []))
 ]
 
@@ -71,6 +62,18 @@ file_none q m x ns cs size absent other =
 
 file_past : (q : List ℕ) (ns cs : List (List ℕ)) → length cs ≡ length ns → place_of q ns ≡ length ns → file_of ns cs q ≡ []
 file_past q ns cs size absent = get_or_past cs (place_of q ns) [] (omega arith)
+
+-- one file more that is empty shows nothing new
+pub file_empty : (q m : List ℕ) (ns cs : List (List ℕ)) → length cs ≡ length ns → file_of (ns ++ m ∷ []) (cs ++ [] ∷ []) q ≡ file_of ns cs q
+file_empty q m ns cs size = elim (cases_lt (place_of q ns) (length ns)) [
+  | inl known ↦ file_old q m [] ns cs size known
+  | inr past ↦
+      let absent : place_of q ns ≡ length ns = omega (arith, place_of-le ns q) in
+      elim (is_same q m) [
+        | inl is ↦ file_new q m [] ns cs size absent is ∙ sym (file_past q ns cs size absent)
+        | inr other ↦ file_none q m [] ns cs size absent other ∙ sym (file_past q ns cs size absent)
+      ]
+]
 
 -- the table shows the first file of each name among these
 pub record Shows (ns cs gs ds : List (List ℕ)) : Type 0 where
@@ -99,7 +102,7 @@ shows_again ns cs gs ds m x shows again = record {
     same q = elim (cases_lt (place_of q gs) (length gs)) [
       | inl known ↦ file_old q m x gs ds shows.given known
       | inr past ↦
-          let absent : place_of q gs ≡ length gs = omega (arith, place_of-le q gs) in
+          let absent : place_of q gs ≡ length gs = omega (arith, place_of-le gs q) in
           let other : q ≢ m = λ is. let known : place_of q gs < length gs = subst (λ (n : List ℕ). place_of n gs < length gs) (sym is) (shows.known m again) in absurd (omega arith) in
           file_none q m x gs ds shows.given absent other ∙ sym (file_past q gs ds shows.given absent)
     ]
@@ -117,11 +120,11 @@ shows_more ns cs gs ds m x shows new = record {
     same q = elim (cases_lt (place_of q ns) (length ns)) [
       | inl known ↦ file_old q m x ns cs shows.size known ∙ shows.files q ∙ sym (file_old q m x gs ds shows.given (shows.known q known))
       | inr past ↦
-          let absent : place_of q ns ≡ length ns = omega (arith, place_of-le q ns) in
+          let absent : place_of q ns ≡ length ns = omega (arith, place_of-le ns q) in
           elim (cases_lt (place_of q gs) (length gs)) [
             | inl known ↦ let known' : place_of q ns < length ns = shows.shown q known in absurd (omega arith)
             | inr past' ↦
-                let absent' : place_of q gs ≡ length gs = omega (arith, place_of-le q gs) in
+                let absent' : place_of q gs ≡ length gs = omega (arith, place_of-le gs q) in
                 elim (is_same q m) [
                   | inl is ↦ file_new q m x ns cs shows.size absent is ∙ sym (file_new q m x gs ds shows.given absent' is)
                   | inr other ↦ file_none q m x ns cs shows.size absent other ∙ sym (file_none q m x gs ds shows.given absent' other)

@@ -1,12 +1,11 @@
 -- Totals of what a store holds, and the answers of its calls.
-use Rattle.std.proofs.Common.{◌≡◌, ℕ, ◌+◌, ◌-◌, ◌<◌, max, ◌⊎◌, List, [], ◌∷◌, ◌++◌, length, get_or, set, refl, ◌∙◌, ap, subst, arith, Ok, Err}
+use Rattle.std.proofs.Common.{◌≡◌, ℕ, ◌+◌, ◌-◌, ◌<◌, max, ◌⊎◌, List, [], length, get_or, set, refl, ◌∙◌, ap, subst, arith, Ok, Err}
 use Rattle.std.proofs.lemmas.Bool.{false≢true}
 use Rattle.std.specs.List.{sum_by}
 use Rattle.std.proofs.lemmas.List.Sums.{sum_by-set}
 use Rattle.outside.specs.Files.{written, resized}
 use Rattle.mem_store.specs.declared.table.Op.TheVariants.{Write}
-use Rattle.mem_store.specs.Table.{no_calls}
-use Rattle.mem_store.specs.Held.{Held, content, total, counted, put, added, after_write, after_set_len, Answers}
+use Rattle.mem_store.specs.Held.{Held, content, total, counted, put, after_write, after_set_len, Answers}
 use Rattle.mem_store.proofs.ArenaLemmas.{length-written, resized_length}
 
 -- one of the contents is another
@@ -27,38 +26,19 @@ at_most A room a b is cause = subst (λ (n : ℕ). A ⊎ (room < n)) is cause
 
 -- what is held after a write, part by part
 pub written_to : (i at : ℕ) (p : List ℕ) (a m b : Held) → m ≡ counted Write i a
-    → b.names ≡ m.names → b.contents ≡ set m.contents i (written at p (get_or m.contents i [])) → b.faults ≡ m.faults → b.tallies ≡ m.tallies
-    → b.file_faults ≡ m.file_faults → b.calls ≡ m.calls → b.written ≡ m.written + length p → b.fails ≡ m.fails → b.room ≡ m.room
-    → b ≡ after_write i at p a
-written_to i at p a m b is names contents faults tallies file_faults calls more fails room =
+    → b.ids ≡ m.ids → b.contents ≡ set m.contents i (written at p (get_or m.contents i [])) → b.tallies ≡ m.tallies
+    → b.calls ≡ m.calls → b.written ≡ m.written + length p → b.fails ≡ m.fails → b.room ≡ m.room → b ≡ after_write i at p a
+written_to i at p a m b is ids contents tallies calls more fails room =
     let step : b ≡ record (put i (written at p (content i m)) m) { written = m.written + length p } = λ j. record {
-      names = names j;
+      ids = ids j;
       contents = contents j;
-      faults = faults j;
       tallies = tallies j;
-      file_faults = file_faults j;
       calls = calls j;
       written = more j;
       fails = fails j;
       room = room j;
     } in
     step ∙ ap (λ (h : Held). record (put i (written at p (content i h)) h) { written = h.written + length p }) is
-
--- and with one file more
-pub added_to : (name : List ℕ) (m b : Held) → b.names ≡ m.names ++ name ∷ [] → b.contents ≡ m.contents ++ [] ∷ [] → b.faults ≡ m.faults ++ 0 ∷ []
-    → b.tallies ≡ m.tallies ++ no_calls ∷ [] → b.file_faults ≡ m.file_faults → b.calls ≡ m.calls → b.written ≡ m.written → b.fails ≡ m.fails → b.room ≡ m.room
-    → b ≡ added name m
-added_to name m b names contents faults tallies file_faults calls more fails room = λ j. record {
-  names = names j;
-  contents = contents j;
-  faults = faults j;
-  tallies = tallies j;
-  file_faults = file_faults j;
-  calls = calls j;
-  written = more j;
-  fails = fails j;
-  room = room j;
-}
 
 pub answers_err : {T E : Type 0} (F : Type 0) (done failed new : Held) (e : E) → F → new ≡ failed → Answers {T = T} F done failed new (Err e)
 answers_err F done failed new e cause is = record { cause = (λ _. cause, λ _. refl); ok = tt; err = is }

@@ -1,65 +1,50 @@
 -- What a store in memory holds, by id, what it tells of it, when a call fails, and what each call leaves.
 -- Cited by the clauses of `MemStore`.
 use Rattle.std.specs.Prelude.{◌≡◌, ◌⊎◌, ◌↔◌, ℕ, ◌+◌, ◌<◌, ◌≤◌, List, [], ◌∷◌, ◌++◌, length, map, slice_set, slice_index}
-use Rattle.std.specs.Prelude.{slice_index_or, true, Option, Some, None, Any, Result, IsErr, OnOk, OnErr}
-use Rattle.std.specs.List.{sum_by, range_with_len}
-use Rattle.outside.specs.Files.{written, resized}
+use Rattle.std.specs.Prelude.{slice_index_or, true, Option, Any, Result, IsErr, OnOk, OnErr}
+use Rattle.std.specs.List.{sum_by}
+use Rattle.outside.specs.Files.{Files, written, resized}
 use Rattle.outside.specs.Store.{View}
+use Rattle.file_ids.specs.Ids.{Ids, AreSound, place_of, one_more, struck, struck_own, added, counts_of, told}
 use Rattle.mem_store.specs.declared.given.Fail.{Fail}
 use Rattle.mem_store.specs.declared.given.NamedBytes.{NamedBytes}
 use Rattle.mem_store.specs.declared.given.Room.{Room}
 use Rattle.mem_store.specs.declared.table.Op.{Op}
 use Rattle.mem_store.specs.declared.table.Op.TheVariants.{Write, SetLen}
 use Rattle.mem_store.specs.declared.table.Tally.{Tally}
-use Rattle.mem_store.specs.Table.{place_of, AreDistinct, AreNames, raised, made, tallied, no_calls}
+use Rattle.mem_store.specs.Table.{made, tallied, no_calls}
 
--- The files by id, with the faults and the calls of each; the faults of `file`; all calls and all bytes written
--- so far; and what it was made with. An id is a place in the lists.
+-- The files by id, with the calls of each; all calls and all bytes written so far; and what it was made with. An id
+-- is a place in the lists.
 pub record Held : Type 0 where
-  pub names : List (List ℕ)
+  pub ids : Ids
   pub contents : List (List ℕ)
-  pub faults : List ℕ
   pub tallies : List Tally
-  pub file_faults : ℕ
   pub calls : ℕ
   pub written : ℕ
   pub fails : List Fail
   pub room : Room
 
--- the lists are of one length, and names differ
+-- its ids are sound, and each has its file
 pub record IsSound (h : Held) : Type 0 where
-  pub distinct : AreDistinct h.names
-  pub named : AreNames h.names
-  pub contents : length h.contents ≡ length h.names
-  pub faults : length h.faults ≡ length h.names
-
--- the counts of a store: of `file`, and of each id
-abbrev pub counts_of : ℕ → List ℕ → Option ℕ → ℕ
-counts_of file_faults faults None = file_faults
-counts_of file_faults faults (Some i) = slice_index faults i
+  pub ids : AreSound h.ids
+  pub each : length h.contents ≡ length h.ids.names
 
 -- the bytes of each file by its name
-abbrev pub file_of : List (List ℕ) → List (List ℕ) → List ℕ → List ℕ
+abbrev pub file_of : List (List ℕ) → List (List ℕ) → Files
 file_of names contents name = slice_index_or contents (place_of name names) []
 
 -- the faults of the file with a name, 0 where there is none
 abbrev pub faults_at : List ℕ → Held → ℕ
-faults_at name h = slice_index h.faults (place_of name h.names)
+faults_at name h = slice_index h.ids.faults (place_of name h.ids.names)
 
 -- the calls of a kind on the file with a name, 0 where there is none
 abbrev pub calls_at : List ℕ → Op → Held → ℕ
-calls_at name op h = made op (slice_index_or h.tallies (place_of name h.names) no_calls)
+calls_at name op h = made op (slice_index_or h.tallies (place_of name h.ids.names) no_calls)
 
 -- what it tells as a store
-unfoldable pub view : Held → View
-view h = record {
-  ids = range_with_len 0 (length h.names);
-  names = λ i. slice_index_or h.names i [];
-  counts = counts_of h.file_faults h.faults;
-  moment = h.calls;
-  honest = true;
-  files = file_of h.names h.contents;
-}
+abbrev pub view : Held → View
+view h = told h.ids h.calls true (file_of h.ids.names h.contents)
 
 -- the bytes of the file with this id
 abbrev pub content : ℕ → Held → List ℕ
@@ -77,7 +62,7 @@ pub record IsAt (file : List ℕ) (kind : Op) (number : ℕ) (fail : Fail) : Typ
 
 -- the next call of this kind on this file is one of the list
 abbrev pub IsListed : Op → ℕ → Held → Type 0
-IsListed op i h = Any (IsAt (slice_index_or h.names i []) op
+IsListed op i h = Any (IsAt (slice_index_or h.ids.names i []) op
     (made op (slice_index_or h.tallies i no_calls) + 1)) h.fails
 
 -- the next call is past the room of calls
@@ -92,16 +77,16 @@ IsFull h = h.room.bytes < total h
 abbrev pub counted : Op → ℕ → Held → Held
 counted op i h = record h {
   tallies = slice_set h.tallies i (tallied op (slice_index_or h.tallies i no_calls));
-  calls = raised h.calls;
+  calls = one_more h.calls;
 }
 
 -- one more fault of a file
-abbrev pub struck : ℕ → Held → Held
-struck i h = record h { faults = slice_set h.faults i (raised (slice_index h.faults i)) }
+abbrev pub with_fault : ℕ → Held → Held
+with_fault i h = record h { ids = struck i h.ids }
 
 -- a call on a file that fails changes nothing but the counts
 abbrev pub after_fault : Op → ℕ → Held → Held
-after_fault op i h = struck i (counted op i h)
+after_fault op i h = with_fault i (counted op i h)
 
 -- a file has these bytes
 abbrev pub put : ℕ → List ℕ → Held → Held
@@ -116,22 +101,21 @@ after_set_len i n h = put i (resized n (content i h)) (counted SetLen i h)
 
 -- the file has an id already
 abbrev pub IsKnown : List ℕ → Held → Type 0
-IsKnown name h = place_of name h.names < length h.names
+IsKnown name h = place_of name h.ids.names < length h.ids.names
 
 -- one more call of `file`
 abbrev pub asked : Held → Held
-asked h = record h { calls = raised h.calls }
+asked h = record h { calls = one_more h.calls }
 
 -- and it fails
 abbrev pub after_file_fault : Held → Held
-after_file_fault h = record (asked h) { file_faults = raised h.file_faults }
+after_file_fault h = record (asked h) { ids = struck_own h.ids }
 
--- a new empty file
-abbrev pub added : List ℕ → Held → Held
-added name h = record h {
-  names = h.names ++ name ∷ [];
-  contents = h.contents ++ [] ∷ [];
-  faults = h.faults ++ 0 ∷ [];
+-- one file more, with these bytes
+abbrev pub with_new : List ℕ → List ℕ → Held → Held
+with_new name bytes h = record h {
+  ids = added name h.ids;
+  contents = h.contents ++ bytes ∷ [];
   tallies = h.tallies ++ no_calls ∷ [];
 }
 
@@ -157,7 +141,7 @@ first_bytes files = file_of (map (λ f. f.name) files) (map (λ f. f.bytes) file
 
 -- no call was made
 pub record IsNew (h : Held) : Type 0 where
-  pub faults : (k : Option ℕ) → counts_of h.file_faults h.faults k ≡ 0
+  pub faults : (k : Option ℕ) → counts_of h.ids.own h.ids.faults k ≡ 0
   pub made : (i : ℕ) → slice_index_or h.tallies i no_calls ≡ no_calls
   pub calls : h.calls ≡ 0
   pub written : h.written ≡ 0

@@ -1,5 +1,5 @@
 ghost use Rattle.std.specs.Prelude.{◌≡◌, ◌+◌, ◌-◌, ◌≤◌, ◌++◌, length, take, drop, replicate, max, vec_len};
-ghost use Rattle.std.specs.Prelude.{vec_capacity, ◌<◌, ◌^◌};
+ghost use Rattle.std.specs.Prelude.{vec_capacity, ◌<◌, ◌^◌, min};
 ghost use Rattle.outside.specs.Files.{written, resized};
 
 // Puts `n` zeros in at a place, within the memory that was taken before.
@@ -64,4 +64,15 @@ pub fn overwrite(bytes: &mut Vec<u8>, start: usize, len: usize, at: usize, piece
     let end = len.max(at + piece.len());
     refit(bytes, start, len, end);
     cover(bytes, start + at, piece);
+}
+
+/// Copies what stands from an offset on, as much as there is room for: how many bytes.
+pub fn copy_from(bytes: &[u8], at: usize, out: &mut [u8]) -> usize
+    ensures count { result ≡ min (length out.old) (length bytes.now - at) }
+    ensures bytes { take result out.new ≡ take (length out.old) (drop at bytes.now) }
+{
+    let from = at.min(bytes.len());
+    let n = out.len().min(bytes.len() - from);
+    out[..n].copy_from_slice(&bytes[from..from + n]);
+    n
 }

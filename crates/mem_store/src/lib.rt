@@ -3,7 +3,6 @@
 
 mod arena;
 mod clock;
-mod find;
 mod given;
 mod memory;
 mod numbered;

@@ -2,13 +2,14 @@ ghost use Rattle.std.specs.Prelude.{◌≡◌, ◌≢◌, ◌+◌, ◌-◌, ◌<
 ghost use Rattle.std.specs.Prelude.{drop, max, slice_index, slice_index_or, IfOk, OnOk, OnErr, IsTrue, Any};
 ghost use Rattle.std.specs.Prelude.{vec_capacity};
 ghost use Rattle.outside.specs.Files.{written, resized};
-ghost use Rattle.mem_store.specs.Table.{names_of, contents_of, tallies_of, faults_of, no_calls};
-ghost use Rattle.mem_store.specs.Held.{IsAt, file_of, first_bytes};
+ghost use Rattle.file_ids.specs.Ids.{AreSound, place_of};
+ghost use Rattle.mem_store.specs.Held.{IsAt, first_bytes};
 
+use crate::arena::copy_from;
 use crate::given::{Fail, NamedBytes, Room};
 use crate::table::{Op, Table};
-use crate::tally::one_more;
-use h5_base::{Bytes, Name, NoMemory};
+use file_ids::{FileIds, one_more};
+use h5_base::{Name, NoMemory};
 use outside::{Failed, FileId, FileStop, Store};
 use std::alloc::Global;
 
@@ -17,24 +18,15 @@ use std::alloc::Global;
 #[derive(Drop)]
 pub struct MemStore {
     alloc: Global,
+    ids: FileIds,
     table: Table,
-    file_faults: u64,
     calls: u64,
     written: u64,
     fails: Vec<Fail>,
     room: Room,
     ghost ready: { room.bytes ≤ vec_capacity table.bytes },
-}
-
-// Copies what stands from an offset on, as much as there is room for.
-fn copy_from(bytes: &[u8], at: usize, out: &mut [u8]) -> usize
-    ensures count { result ≤ length out.old }
-    ensures bytes { take result out.new ≡ take (length out.old) (drop at bytes.now) }
-{
-    let from = at.min(bytes.len());
-    let n = out.len().min(bytes.len() - from);
-    out[..n].copy_from_slice(&bytes[from..from + n]);
-    n
+    ghost sound: { AreSound ids },
+    ghost each: { length table.entries.items ≡ length ids.names },
 }
 
 fn is_at(fail: &Fail, name: &Name, op: Op, before: u64) -> bool
@@ -52,37 +44,18 @@ fn is_listed(fails: &[Fail], name: &Name, op: Op, before: u64) -> bool
     fails.iter().any(|fail| is_at(fail, name, op, before))
 }
 
-// The table of these files, each with its bytes, but of two with one name the first alone.
-fn table_of(alloc: Global, files: Vec<NamedBytes>) -> Result<Table, NoMemory>
-    ensures files { IfOk result (λ t. (q : List ℕ)
-        → file_of (names_of t.entries.items) (contents_of t.entries.items t.bytes.items) q ≡ first_bytes files.items q) }
-    ensures faults { IfOk result (λ t. (i : ℕ) → slice_index (faults_of t.entries.items) i ≡ 0) }
-    ensures tallies { IfOk result (λ t. (i : ℕ) → slice_index_or (tallies_of t.entries.items) i no_calls ≡ no_calls) }
-{
-    let mut table = Table {
-        entries: Vec::new(alloc),
-        bytes: Vec::new(alloc),
-    };
-    for file in files {
-        match table.find(&file.name) {
-            Some(_) => {}
-            None => table.add_file(file.name, file.bytes.as_slice())?,
-        }
-    }
-    Ok(table)
-}
-
 impl MemStore {
     ghost use Rattle.mem_store.specs.Memory.{held};
-    ghost use Rattle.mem_store.specs.Held.{IsListed, IsLate, IsFull, counted, struck, after_fault, after_write};
-    ghost use Rattle.mem_store.specs.Held.{after_set_len, asked, after_file_fault, added, content, Looks, Changes};
+    ghost use Rattle.mem_store.specs.Held.{IsListed, IsLate, IsFull, counted, with_fault, after_fault, after_write};
+    ghost use Rattle.mem_store.specs.Held.{after_set_len, asked, after_file_fault, with_new, content, Looks, Changes};
     ghost use Rattle.mem_store.specs.Held.{IsNew, view, faults_at, calls_at};
     ghost use Rattle.std.specs.List.{sum_by};
     ghost use Rattle.std.specs.Prelude.{true, false, None, Option};
-    ghost use Rattle.mem_store.specs.Table.{lens_of, place_of};
+    ghost use Rattle.mem_store.specs.Table.{lens_of};
 
     /// A store with these files, of two with one name the first, of which the calls listed fail, and those past the
     /// room.
+    #[tactic(auto, unfolding(file_ids::specs::Ids::told))]
     pub fn new(
         alloc: Global,
         files: Vec<NamedBytes>,
@@ -96,24 +69,44 @@ impl MemStore {
         ensures fails { IfOk result (λ m. (held m).fails ≡ fails.items) }
         ensures room { IfOk result (λ m. (held m).room ≡ room) }
     {
-        let mut table = table_of(alloc, files)?;
-        table.reserve(room.bytes as usize)?;
-        Ok(MemStore {
+        let mut store = MemStore {
             alloc,
-            table,
-            file_faults: 0,
+            ids: FileIds::new(alloc),
+            table: Table::new(alloc, room.bytes as usize)?,
             calls: 0,
             written: 0,
             fails,
             room,
-        })
+        };
+        for file in files {
+            match store.ids.find(&file.name) {
+                Some(_) => {}
+                None => {
+                    store.add(file.name, file.bytes.as_slice())?;
+                }
+            }
+        }
+        Ok(store)
+    }
+
+    // One file more, with these bytes, and its id.
+    fn add(&mut self, name: Name, bytes: &[u8]) -> Result<usize, NoMemory>
+        requires { place_of name (held self.old).ids.names ≡ length (held self.old).ids.names }
+        ensures id { IfOk result (λ id. id ≡ length (held self.old).ids.names) }
+        ensures ok { OnOk result (held self.new ≡ with_new name bytes.now (held self.old)) }
+        ensures err { OnErr result (held self.new ≡ held self.old) }
+    {
+        self.table.reserve(bytes.len())?;
+        let id = self.ids.add(name)?;
+        self.table.add(bytes);
+        Ok(id)
     }
 
     /// The bytes of a file, none where there is none.
     pub fn bytes_of(&self, name: &Name) -> &[u8]
         ensures { result.now ≡ (view (held self.now)).files name.now }
     {
-        match self.table.find(name) {
+        match self.ids.find(name) {
             Some(i) => self.table.bytes_at(i),
             None => &[],
         }
@@ -123,8 +116,8 @@ impl MemStore {
     pub fn faults_of(&self, name: &Name) -> u64
         ensures { result ≡ faults_at name.now (held self.now) }
     {
-        match self.table.find(name) {
-            Some(i) => self.table.faults_at(i),
+        match self.ids.find(name) {
+            Some(i) => self.ids.faults(i),
             None => 0,
         }
     }
@@ -133,7 +126,7 @@ impl MemStore {
     pub fn calls(&self, name: &Name, op: Op) -> u64
         ensures { result ≡ calls_at name.now op (held self.now) }
     {
-        match self.table.find(name) {
+        match self.ids.find(name) {
             Some(i) => self.table.tally(i).of(op),
             None => 0,
         }
@@ -143,19 +136,19 @@ impl MemStore {
     pub fn file_faults(&self) -> u64
         ensures { result ≡ (view (held self.now)).counts None }
     {
-        self.file_faults
+        self.ids.own_faults()
     }
 
     // Counts a call on a file, and tells whether it is one of the list or past the room of calls.
     fn strikes(&mut self, i: usize, op: Op) -> bool
-        requires { i < length (held self.old).names }
+        requires { i < length (held self.old).ids.names }
         ensures told { IsTrue result ↔ (IsListed op i (held self.old) ⊎ IsLate (held self.old)) }
         ensures counted { held self.new ≡ counted op i (held self.old) }
     {
         let late = self.room.calls <= self.calls;
         let listed = is_listed(
             self.fails.as_slice(),
-            self.table.name(i),
+            self.ids.name(i),
             op,
             self.table.tally(i).of(op),
         );
@@ -165,16 +158,16 @@ impl MemStore {
     }
 
     fn fault(&mut self, i: usize) -> Failed
-        requires { i < length (held self.old).names }
-        ensures { held self.new ≡ struck i (held self.old) }
+        requires { i < length (held self.old).ids.names }
+        ensures { held self.new ≡ with_fault i (held self.old) }
     {
-        self.table.count_fault(i);
+        self.ids.count_fault(i);
         Failed
     }
 
     // Whether the room of bytes is passed where a file has `len` bytes and `more` were written.
     fn is_full_with(&self, i: usize, len: u64, more: u64) -> bool
-        requires { i < length (held self.now).names }
+        requires { i < length (held self.now).ids.names }
         ensures full { IsTrue result ↔ (self.now.room.bytes < sum_by length (held self.now).contents - length
             (content i (held self.now)) + len + (self.now.written + more)) }
         ensures fits { result ≡ false → length self.now.table.bytes.items - slice_index
@@ -188,7 +181,7 @@ impl MemStore {
     // Counts a call after which a file would have `len` bytes and `more` would be written, and tells whether it
     // fails.
     fn fails_with(&mut self, i: usize, op: Op, len: u64, more: u64) -> bool
-        requires { i < length (held self.old).names }
+        requires { i < length (held self.old).ids.names }
         ensures told { IsTrue result ↔ ((IsListed op i (held self.old) ⊎ IsLate (held self.old))
             ⊎ ((held self.old).room.bytes < sum_by length (held self.old).contents - length
             (content i (held self.old)) + len + ((held self.old).written + more))) }
@@ -205,7 +198,7 @@ impl MemStore {
     }
 
     fn len_of(&mut self, i: usize) -> Result<u64, Failed>
-        requires { i < length (held self.old).names }
+        requires { i < length (held self.old).ids.names }
         ensures len { IfOk result (λ n. n ≡ length (content i (held self.old))) }
         ensures exact { Looks Op.Len i (held self.old) (held self.new) result }
     {
@@ -216,7 +209,7 @@ impl MemStore {
     }
 
     fn read_at(&mut self, i: usize, at: usize, out: &mut [u8]) -> Result<usize, Failed>
-        requires { i < length (held self.old).names }
+        requires { i < length (held self.old).ids.names }
         ensures count { IfOk result (λ n. n ≤ length out.old) }
         ensures bytes { IfOk result (λ n. take n out.new ≡ take (length out.old)
             (drop at (content i (held self.old)))) }
@@ -229,7 +222,7 @@ impl MemStore {
     }
 
     fn write_at(&mut self, i: usize, at: u64, piece: &[u8]) -> Result<(), Failed>
-        requires within { i < length (held self.old).names }
+        requires within { i < length (held self.old).ids.names }
         requires fits { at + length piece.now ≤ 2 ^ 49 }
         ensures { Changes Op.Write i (held self.old) (after_write i at piece.now (held self.old))
             (held self.new) result }
@@ -245,7 +238,7 @@ impl MemStore {
     }
 
     fn resize(&mut self, i: usize, n: u64) -> Result<(), Failed>
-        requires within { i < length (held self.old).names }
+        requires within { i < length (held self.old).ids.names }
         ensures { Changes Op.SetLen i (held self.old) (after_set_len i n (held self.old)) (held self.new) result }
     {
         if self.fails_with(i, Op::SetLen, n, 0) {
@@ -256,7 +249,7 @@ impl MemStore {
     }
 
     fn flush(&mut self, i: usize) -> Result<(), Failed>
-        requires { i < length (held self.old).names }
+        requires { i < length (held self.old).ids.names }
         ensures { Looks Op.Sync i (held self.old) (held self.new) result }
     {
         if self.strikes(i, Op::Sync) {
@@ -267,11 +260,11 @@ impl MemStore {
 
     fn ask(&mut self, name: &Name) -> Result<FileId, FileStop>
         ensures named { 0 < length name.now }
-        ensures id { IfOk result (λ id. id.n ≡ place_of name.now (held self.old).names) }
-        ensures known { OnOk result (place_of name.now (held self.old).names < length (held self.old).names
+        ensures id { IfOk result (λ id. id.n ≡ place_of name.now (held self.old).ids.names) }
+        ensures known { OnOk result (place_of name.now (held self.old).ids.names < length (held self.old).ids.names
             → held self.new ≡ asked (held self.old)) }
-        ensures new { OnOk result (place_of name.now (held self.old).names ≡ length (held self.old).names
-            → held self.new ≡ added name.now (asked (held self.old))) }
+        ensures new { OnOk result (place_of name.now (held self.old).ids.names ≡ length (held self.old).ids.names
+            → held self.new ≡ with_new name.now [] (asked (held self.old))) }
         ensures late { (result ≡ Err FileStop.Failed) ↔ IsLate (held self.old) }
         ensures failed { result ≡ Err FileStop.Failed → held self.new ≡ after_file_fault (held self.old) }
         ensures no_memory { result ≡ Err FileStop.NoMemory → held self.new ≡ asked (held self.old) }
@@ -280,20 +273,18 @@ impl MemStore {
         let late = self.room.calls <= self.calls;
         self.calls = one_more(self.calls);
         if late {
-            self.file_faults = one_more(self.file_faults);
+            self.ids.count_own();
             return Err(FileStop::Failed);
         }
-        match self.table.find(name) {
+        match self.ids.find(name) {
             Some(i) => return Ok(FileId { n: i as u64 }),
             None => {}
         }
-        let n = self.table.len() as u64;
-        let own = match Name::from_slice(self.alloc, name.as_slice()) {
-            Ok(own) => own,
-            Err(_) => return Err(FileStop::NoMemory),
+        let Ok(own) = Name::from_slice(self.alloc, name.as_slice()) else {
+            return Err(FileStop::NoMemory);
         };
-        match self.table.add(own) {
-            Ok(()) => Ok(FileId { n }),
+        match self.add(own, &[]) {
+            Ok(id) => Ok(FileId { n: id as u64 }),
             Err(_) => Err(FileStop::NoMemory),
         }
     }
@@ -303,10 +294,10 @@ impl Store for MemStore {
     ghost use Rattle.std.specs.Prelude.{true, false};
     ghost use Rattle.std.proofs.lemmas.Bool.{false≢true};
     ghost use Rattle.mem_store.specs.Memory.{held};
-    ghost use Rattle.mem_store.specs.Held.{view as view_of};
-    ghost use Rattle.mem_store.specs.Held.{IsLate, IsKnown, asked, after_file_fault, added, after_write, after_set_len};
+    ghost use Rattle.mem_store.specs.Held.{file_of, view as view_of};
+    ghost use Rattle.mem_store.specs.Held.{IsLate, IsKnown, asked, after_file_fault, with_new, after_write, after_set_len};
     ghost use Rattle.mem_store.specs.Held.{Looks, Changes};
-    ghost use Rattle.mem_store.specs.Laws.{are_ids, length-faults_of};
+    ghost use Rattle.file_ids.proofs.ToldLemmas.{ids_stand};
     ghost use Rattle.std.specs.Prelude.{Some, None, IsErr, IsErrOf, OnErr};
     ghost use Rattle.outside.specs.Store.{Calls, Gives, SameIds};
 
@@ -320,7 +311,7 @@ impl Store for MemStore {
 
     ghost past = { λ _ _. ⊥ };
 
-    ghost ids_stand = { λ m. are_ids (held m) m.table.named (length-faults_of m.table.entries.items) };
+    ghost ids_stand = { λ m. let h = held m in ids_stand h.ids h.calls true (file_of h.ids.names h.contents) m.sound };
 
     ghost reads_now = { λ told. absurd (false≢true told) };
 
@@ -336,7 +327,7 @@ impl Store for MemStore {
         ensures cause { IsErrOf result FileStop.Failed ↔ IsLate (held self.old) }
         ensures known { OnOk result (IsKnown name.now (held self.old) → held self.new ≡ asked (held self.old)) }
         ensures new { OnOk result ((¬ IsKnown name.now (held self.old))
-            → held self.new ≡ added name.now (asked (held self.old))) }
+            → held self.new ≡ with_new name.now [] (asked (held self.old))) }
         ensures failed { IsErrOf result FileStop.Failed → held self.new ≡ after_file_fault (held self.old) }
         ensures no_memory { IsErrOf result FileStop.NoMemory → held self.new ≡ asked (held self.old) }
     {

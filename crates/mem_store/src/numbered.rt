@@ -1,8 +1,7 @@
-ghost use Rattle.std.specs.Prelude.{◌≡◌, ◌↔◌, ◌⊎◌, ◌+◌, ℕ, List, IsTrue, Any, if◌then◌else◌, take, drop, length, ◌-◌};
-ghost use Rattle.std.specs.Prelude.{◌≤◌, min};
-ghost use Rattle.mem_store.specs.Table.{raised};
+ghost use Rattle.std.specs.Prelude.{◌≡◌, ◌↔◌, ◌⊎◌, ◌+◌, IsTrue, Any, if◌then◌else◌};
+ghost use Rattle.file_ids.specs.Ids.{one_more};
 
-use crate::tally::one_more;
+use file_ids::one_more;
 
 /// The calls of an object, those of them that fail, by number from 1, and the faults so far.
 #[derive(Debug, Drop)]
@@ -37,9 +36,9 @@ impl Calls {
     pub fn strikes(&mut self, stops: bool) -> bool
         ensures cause { IsTrue result ↔ (Any (λ number. number ≡ self.old.made + 1) self.old.fails.items
             ⊎ IsTrue stops) }
-        ensures made { self.new.made ≡ raised self.old.made }
+        ensures made { self.new.made ≡ one_more self.old.made }
         ensures fails { self.new.fails ≡ self.old.fails }
-        ensures faults { self.new.faults ≡ (if result then raised self.old.faults else self.old.faults) }
+        ensures faults { self.new.faults ≡ (if result then one_more self.old.faults else self.old.faults) }
     {
         let listed = is_next(self.fails.as_slice(), self.made);
         self.made = one_more(self.made);
@@ -49,15 +48,4 @@ impl Calls {
         }
         fails
     }
-}
-
-/// Copies what stands from an offset on, as much as there is room for.
-pub fn copy_out(bytes: &[u8], at: usize, out: &mut [u8]) -> usize
-    requires { at ≤ length bytes.now }
-    ensures count { result ≡ min (length out.old) (length bytes.now - at) }
-    ensures bytes { take result out.new ≡ take result (drop at bytes.now) }
-{
-    let n = out.len().min(bytes.len() - at);
-    out[..n].copy_from_slice(&bytes[at..at + n]);
-    n
 }

@@ -2,7 +2,8 @@ ghost use Rattle.std.specs.Prelude.{◌≡◌, ◌≤◌, ◌<◌, ℕ, List, []
 ghost use Rattle.outside.specs.Causes.{HasCause};
 ghost use Rattle.mem_store.specs.Ports.{Feed, Numbered, IsNext, Counts};
 
-use crate::numbered::{Calls, copy_out};
+use crate::arena::copy_from;
+use crate::numbered::Calls;
 use h5_base::Bytes;
 use outside::{Failed, Source};
 use std::marker::Model;
@@ -69,7 +70,7 @@ impl Source for VecSource {
         if self.calls.strikes(false) {
             return Err(Failed);
         }
-        let n = copy_out(self.bytes.as_slice(), self.at, out);
+        let n = copy_from(self.bytes.as_slice(), self.at, out);
         self.at += n;
         Ok(n)
     }

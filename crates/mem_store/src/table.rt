@@ -1,14 +1,12 @@
 ghost use Rattle.std.specs.Prelude.{◌≡◌, ◌+◌, ◌-◌, ◌<◌, ◌≤◌, ◌^◌, ◌∷◌, ◌++◌, max, ℕ, List, [], length, take, drop, sum};
-ghost use Rattle.std.specs.Prelude.{slice_set, slice_index, slice_index_or, OnOk, OnErr, MatchOption, vec_capacity};
+ghost use Rattle.std.specs.Prelude.{slice_set, slice_index, slice_index_or, IfOk, OnOk, vec_capacity};
 ghost use Rattle.std.specs.List.{sum_by};
 ghost use Rattle.outside.specs.Files.{written, resized};
-ghost use Rattle.mem_store.specs.Table.{names_of, lens_of, faults_of, tallies_of, contents_of, place_of, AreDistinct};
-ghost use Rattle.mem_store.specs.Table.{AreNames, raised, made, tallied, no_calls};
+ghost use Rattle.mem_store.specs.Table.{lens_of, tallies_of, contents_of, made, tallied, no_calls};
 
 use crate::arena::{overwrite, refit};
-use crate::find::place;
-use crate::tally::one_more;
-use h5_base::{Name, NoMemory};
+use h5_base::NoMemory;
+use std::alloc::Global;
 
 /// The kinds of calls on a file.
 #[derive(Clone, Copy, Debug, PartialEq, Eq)]
@@ -30,22 +28,18 @@ pub struct Tally {
     pub sync: u64,
 }
 
-/// A file: its name, its length in bytes, its faults and its calls.
+/// A file: its length in bytes and its calls.
 #[derive(Drop)]
 pub struct Entry {
-    pub name: Name,
     pub len: usize,
-    pub faults: u64,
     pub made: Tally,
 }
 
-/// Files, no two of them with one name, and their bytes one after another.
+/// Files by id, and their bytes one after another.
 #[derive(Drop)]
 pub struct Table {
     pub entries: Vec<Entry>,
     pub bytes: Vec<u8>,
-    ghost distinct: { AreDistinct (names_of entries.items) },
-    ghost named: { AreNames (names_of entries.items) },
     ghost full: { sum (lens_of entries.items) ≡ length bytes.items },
 }
 
@@ -58,21 +52,19 @@ fn sum_of(entries: &[Entry]) -> usize
 
 #[tactic(auto, using(crate::proofs::TableLemmas::table_steps))]
 impl Table {
-    /// The place of a name.
-    pub fn find(&self, name: &Name) -> Option<usize>
-        ensures some { 0 < length name.now }
-        ensures place { MatchOption result (place_of name.now
-            (names_of self.now.entries.items) ≡ length self.now.entries.items)
-            (λ i. (i < length self.now.entries.items) × (place_of name.now (names_of self.now.entries.items) ≡ i)) }
+    /// No files yet, with memory for so many bytes.
+    pub fn new(alloc: Global, room: usize) -> Result<Table, NoMemory>
+        ensures entries { IfOk result (λ t. t.entries.items ≡ []) }
+        ensures bytes { IfOk result (λ t. t.bytes.items ≡ []) }
+        ensures room { IfOk result (λ t. room ≤ vec_capacity t.bytes) }
     {
-        let _text = name.as_slice();
-        place(self.entries.as_slice(), name)
-    }
-
-    pub fn len(&self) -> usize
-        ensures { result ≡ length self.now.entries.items }
-    {
-        self.entries.len()
+        let Ok(bytes) = Vec::with_capacity(alloc, room) else {
+            return Err(NoMemory);
+        };
+        Ok(Table {
+            entries: Vec::new(alloc),
+            bytes,
+        })
     }
 
     // Where the bytes of a file begin.
@@ -94,28 +86,36 @@ impl Table {
         &self.bytes[start..start + self.entries[i].len]
     }
 
-    /// A new empty file.
-    pub fn add(&mut self, name: Name) -> Result<(), NoMemory>
-        requires absent { place_of name (names_of self.old.entries.items) ≡ length self.old.entries.items }
-        requires named { 0 < length name }
-        ensures names { OnOk result (names_of self.new.entries.items ≡ names_of self.old.entries.items ++ name ∷ []) }
-        ensures lens { OnOk result (lens_of self.new.entries.items ≡ lens_of self.old.entries.items ++ 0 ∷ []) }
-        ensures faults { OnOk result (faults_of self.new.entries.items ≡ faults_of self.old.entries.items ++ 0 ∷ []) }
-        ensures tallies { OnOk result (tallies_of self.new.entries.items ≡ tallies_of self.old.entries.items ++
-            no_calls ∷ []) }
-        ensures err { OnErr result (self.new.entries.items ≡ self.old.entries.items) }
-        ensures bytes { self.new.bytes ≡ self.old.bytes }
+    /// Takes memory for one file more, of so many bytes.
+    pub fn reserve(&mut self, n: usize) -> Result<(), NoMemory>
+        ensures entries { self.new.entries.items ≡ self.old.entries.items }
+        ensures bytes { self.new.bytes.items ≡ self.old.bytes.items }
+        ensures place { OnOk result (length self.new.entries.items < vec_capacity self.new.entries) }
+        ensures room { OnOk result (length self.new.bytes.items + n ≤ vec_capacity self.new.bytes) }
+        ensures capacity { vec_capacity self.old.bytes ≤ vec_capacity self.new.bytes }
+    {
+        if self.entries.reserve(1).is_err() || self.bytes.reserve(n).is_err() {
+            return Err(NoMemory);
+        }
+        Ok(())
+    }
+
+    /// One file more, with these bytes. It takes no memory.
+    pub fn add(&mut self, bytes: &[u8])
+        requires place { length self.old.entries.items < vec_capacity self.old.entries }
+        requires room { length self.old.bytes.items + length bytes.now ≤ vec_capacity self.old.bytes }
+        ensures tallies { tallies_of self.new.entries.items ≡ tallies_of self.old.entries.items ++ no_calls ∷ [] }
+        ensures contents { contents_of self.new.entries.items self.new.bytes.items
+            ≡ contents_of self.old.entries.items self.old.bytes.items ++ bytes.now ∷ [] }
+        ensures count { length self.new.entries.items ≡ length self.old.entries.items + 1 }
+        ensures capacity { vec_capacity self.old.bytes ≤ vec_capacity self.new.bytes }
     {
         let entry = Entry {
-            name,
-            len: 0,
-            faults: 0,
+            len: bytes.len(),
             made: Tally::new(),
         };
-        match self.entries.push(entry) {
-            Ok(()) => Ok(()),
-            Err(_) => Err(NoMemory),
-        }
+        let _ = self.bytes.extend_from_slice(bytes);
+        let _ = self.entries.push(entry);
     }
 
     /// Gives a file this length: cut, or with zeros behind.
@@ -123,8 +123,7 @@ impl Table {
         requires within { i < length self.old.entries.items }
         requires room { length self.old.bytes.items - slice_index
             (lens_of self.old.entries.items) i + n ≤ vec_capacity self.old.bytes }
-        ensures names { names_of self.new.entries.items ≡ names_of self.old.entries.items }
-        ensures faults { faults_of self.new.entries.items ≡ faults_of self.old.entries.items }
+        ensures count { length self.new.entries.items ≡ length self.old.entries.items }
         ensures tallies { tallies_of self.new.entries.items ≡ tallies_of self.old.entries.items }
         ensures contents { contents_of self.new.entries.items self.new.bytes.items
             ≡ slice_set (contents_of self.old.entries.items self.old.bytes.items) i
@@ -143,8 +142,7 @@ impl Table {
         requires end { at + length piece.now < 2 ^ 64 }
         requires room { length self.old.bytes.items - slice_index (lens_of self.old.entries.items) i + max
             (slice_index (lens_of self.old.entries.items) i) (at + length piece.now) ≤ vec_capacity self.old.bytes }
-        ensures names { names_of self.new.entries.items ≡ names_of self.old.entries.items }
-        ensures faults { faults_of self.new.entries.items ≡ faults_of self.old.entries.items }
+        ensures count { length self.new.entries.items ≡ length self.old.entries.items }
         ensures tallies { tallies_of self.new.entries.items ≡ tallies_of self.old.entries.items }
         ensures contents { contents_of self.new.entries.items self.new.bytes.items
             ≡ slice_set (contents_of self.old.entries.items self.old.bytes.items) i
@@ -157,25 +155,11 @@ impl Table {
         self.entries[i].len = len.max(at + piece.len());
     }
 
-    /// Counts a fault of a file.
-    pub fn count_fault(&mut self, i: usize)
-        requires { i < length self.old.entries.items }
-        ensures names { names_of self.new.entries.items ≡ names_of self.old.entries.items }
-        ensures lens { lens_of self.new.entries.items ≡ lens_of self.old.entries.items }
-        ensures tallies { tallies_of self.new.entries.items ≡ tallies_of self.old.entries.items }
-        ensures faults { faults_of self.new.entries.items ≡ slice_set (faults_of self.old.entries.items) i
-            (raised (slice_index (faults_of self.old.entries.items) i)) }
-        ensures bytes { self.new.bytes ≡ self.old.bytes }
-    {
-        self.entries[i].faults = one_more(self.entries[i].faults);
-    }
-
     /// Counts a call on a file.
     pub fn count_call(&mut self, i: usize, op: Op)
         requires { i < length self.old.entries.items }
-        ensures names { names_of self.new.entries.items ≡ names_of self.old.entries.items }
+        ensures count { length self.new.entries.items ≡ length self.old.entries.items }
         ensures lens { lens_of self.new.entries.items ≡ lens_of self.old.entries.items }
-        ensures faults { faults_of self.new.entries.items ≡ faults_of self.old.entries.items }
         ensures tallies { tallies_of self.new.entries.items ≡ slice_set (tallies_of self.old.entries.items) i
             (tallied op (slice_index_or (tallies_of self.old.entries.items) i no_calls)) }
         ensures bytes { self.new.bytes ≡ self.old.bytes }
@@ -183,13 +167,7 @@ impl Table {
         self.entries[i].made = self.entries[i].made.with(op);
     }
 
-    pub fn name(&self, i: usize) -> &Name
-        requires { i < length self.now.entries.items }
-        ensures { result.now ≡ slice_index_or (names_of self.now.entries.items) i [] }
-    {
-        &self.entries[i].name
-    }
-
+    /// The calls on a file so far.
     pub fn tally(&self, i: usize) -> Tally
         requires { i < length self.now.entries.items }
         ensures { result ≡ slice_index_or (tallies_of self.now.entries.items) i no_calls }
@@ -214,49 +192,5 @@ impl Table {
         ensures all { result ≡ length self.now.bytes.items }
     {
         self.bytes.len()
-    }
-
-    /// Takes memory for so many bytes in all.
-    pub fn reserve(&mut self, n: usize) -> Result<(), NoMemory>
-        ensures entries { self.new.entries ≡ self.old.entries }
-        ensures bytes { self.new.bytes.items ≡ self.old.bytes.items }
-        ensures ok { OnOk result (n ≤ vec_capacity self.new.bytes) }
-    {
-        let spare = n.saturating_sub(self.bytes.len());
-        match self.bytes.reserve(spare) {
-            Ok(()) => Ok(()),
-            Err(_) => Err(NoMemory),
-        }
-    }
-
-    /// A new file with these bytes.
-    pub fn add_file(&mut self, name: Name, bytes: &[u8]) -> Result<(), NoMemory>
-        requires absent { place_of name (names_of self.old.entries.items) ≡ length self.old.entries.items }
-        requires named { 0 < length name }
-        ensures names { OnOk result (names_of self.new.entries.items ≡ names_of self.old.entries.items ++ name ∷ []) }
-        ensures faults { OnOk result (faults_of self.new.entries.items ≡ faults_of self.old.entries.items ++ 0 ∷ []) }
-        ensures tallies { OnOk result (tallies_of self.new.entries.items ≡ tallies_of self.old.entries.items ++
-            no_calls ∷ []) }
-        ensures contents { OnOk result (contents_of self.new.entries.items self.new.bytes.items ≡ contents_of
-            self.old.entries.items self.old.bytes.items ++ bytes.now ∷ []) }
-    {
-        let total = self.bytes.len();
-        let n = bytes.len();
-        if usize::MAX - n < total {
-            return Err(NoMemory);
-        }
-        self.reserve(total + n)?;
-        let i = self.len();
-        self.add(name)?;
-        self.write(i, 0, bytes);
-        Ok(())
-    }
-
-    /// The faults of a file.
-    pub fn faults_at(&self, i: usize) -> u64
-        requires { i < length self.now.entries.items }
-        ensures { result ≡ slice_index (faults_of self.now.entries.items) i }
-    {
-        self.entries[i].faults
     }
 }

@@ -1,14 +1,8 @@
 ghost use Rattle.std.specs.Prelude.{◌≡◌};
-ghost use Rattle.mem_store.specs.Table.{raised, made, tallied, no_calls};
+ghost use Rattle.mem_store.specs.Table.{made, tallied, no_calls};
 
 use crate::table::{Op, Tally};
-
-/// One more, where the type has room.
-pub fn one_more(n: u64) -> u64
-    ensures { result ≡ raised n }
-{
-    if n < u64::MAX { n + 1 } else { n }
-}
+use file_ids::one_more;
 
 impl Tally {
     /// No call yet.

@@ -1,10 +1,10 @@
 -- The first LF of some bytes, what is kept of a line, and which part of a piece is held.
-use Rattle.std.proofs.Common.{◌≡◌, ◌≢◌, ℕ, zero, suc, ◌+◌, ◌-◌, ◌<◌, ◌≤◌, min, Bool, true, false, cond, not, List, [], ◌∷◌, ◌++◌, length, take, drop, get_or, Some, None, refl, sym, ap, subst, ◌∙◌, inl, inr, eq-eqb, arith, drop-cons}
+use Rattle.std.proofs.Common.{◌≡◌, ◌≢◌, ℕ, zero, suc, ◌+◌, ◌-◌, ◌<◌, ◌≤◌, min, Bool, true, false, cond, not, List, [], ◌∷◌, ◌++◌, length, take, drop, get_or, Some, None, refl, sym, ap, subst, ◌∙◌, eq-eqb, arith, drop-cons}
 use Rattle.std.specs.Prelude.{position, slice_range, ◌==◌, nat_lt}
 use Rattle.std.specs.List.{position_or_len}
-use Rattle.std.proofs.lemmas.Bool.{ltb-false, cases_lt}
+use Rattle.std.proofs.lemmas.Bool.{ltb-false}
 use Rattle.std.proofs.lemmas.Bool.Decides.{nat_tests}
-use Rattle.std.proofs.lemmas.List.{take_all, get_or-take, take-append-drop, drop-drop, drop-take, length-take}
+use Rattle.std.proofs.lemmas.List.{take_min, get_or-take, take-append-drop, drop-drop, drop-take, length-take}
 use Rattle.std.proofs.lemmas.List.Quantifiers.{position-Some}
 use Rattle.std.proofs.Math.Seq.{take-append-add}
 use Rattle.script_lines.specs.Lines.{HasNoLf, most_kept}
@@ -56,14 +56,8 @@ first_lf xs at is =
 
 -- ---- what is kept of a line
 
-take_min : (n : ℕ) (bytes : List ℕ) → take (min (length bytes) n) bytes ≡ take n bytes
-take_min n bytes = elim (cases_lt (length bytes) n) [
-  | inl lt ↦ let m : min (length bytes) n ≡ length bytes = omega arith in rw (m, take_all (length bytes) bytes (omega arith), take_all n bytes (omega arith)) refl
-  | inr ge ↦ let m : min (length bytes) n ≡ n = omega arith in rw m refl
-]
-
 -- as much as there is room for
-pub kept_more : (n : ℕ) (line bytes : List ℕ) → length line ≤ n → line ++ take (min (length bytes) (n - length line)) bytes ≡ take n (line ++ bytes)
+pub kept_more : (n : ℕ) (line bytes : List ℕ) → length line ≤ n → line ++ take (min (n - length line) (length bytes)) bytes ≡ take n (line ++ bytes)
 kept_more n line bytes short =
     let m : length line + (n - length line) ≡ n = omega arith in
     ap (λ (l : List ℕ). line ++ l) (take_min (n - length line) bytes) ∙ sym (take-append-add line bytes (n - length line)) ∙ ap (λ k. take k (line ++ bytes)) m

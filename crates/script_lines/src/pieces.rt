@@ -32,7 +32,7 @@ pub(crate) fn append_kept(line: &mut Vec<u8>, bytes: &[u8])
     ensures short { vec_len line.new ≤ most_kept }
     ensures room { most_kept ≤ vec_capacity line.new }
 {
-    let count = bytes.len().min(MOST_KEPT - line.len());
+    let count = (MOST_KEPT - line.len()).min(bytes.len());
     let _ = line.extend_from_slice(&bytes[..count]);
 }
 

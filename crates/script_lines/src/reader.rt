@@ -1,8 +1,8 @@
-ghost use Rattle.std.specs.Prelude.{◌≡◌, ◌⊎◌, ◌↔◌, ◌+◌, ◌<◌, ◌≤◌, ◌++◌, ◌∷◌, [], List, ℕ, length, take, true, false};
+ghost use Rattle.std.specs.Prelude.{◌≡◌, ◌⊎◌, ◌↔◌, ◌+◌, ◌<◌, ◌≤◌, ◌++◌, ◌∷◌, [], List, ℕ, length, take, not, true, false};
 ghost use Rattle.std.specs.Prelude.{IsTrue, IfOk, OnErr, IsErrOf, Ok};
 ghost use Rattle.std.specs.List.{Contains};
 ghost use Rattle.outside.specs.Causes.{Rose};
-ghost use Rattle.script_lines.specs.Lines.{HasNoLf, IsNext, most_kept, most_taken, spent};
+ghost use Rattle.script_lines.specs.Lines.{HasNoLf, HasReadAll, IsNext, most_kept, most_taken, spent};
 
 use crate::pieces::{MOST_KEPT, append_kept, find_lf, read_piece};
 use h5_base::NoMemory;
@@ -38,8 +38,8 @@ pub enum NextLine {
     End,
 }
 
-/// Reads a source line by line. Memory is taken when it is made, for one line and one piece; a line is kept to its
-/// first 65,537 bytes.
+/// Reads one source line by line, and asks it no further once it answered its end. Memory is taken when it is made,
+/// for one line and one piece; a line is kept to its first 65,537 bytes.
 #[derive(Debug, Drop)]
 pub struct LineReader {
     line: Vec<u8>,
@@ -47,23 +47,30 @@ pub struct LineReader {
     at: usize,
     end: usize,
     taken: u64,
+    ended: bool,
 }
 
 impl Model for LineReader {
     ghost use Rattle.std.specs.Prelude.{slice_range, vec_len, vec_capacity};
-    ghost use Rattle.script_lines.specs.Lines.{Reading, AreKept};
+    ghost use Rattle.script_lines.specs.Lines.{Reading, AreKept, HasRoom};
 
     ghost Value = { Reading };
 
-    ghost view = { λ r. record { line = r.line.items; held = slice_range r.piece.items r.at r.end; taken = r.taken } };
+    ghost view = { λ r. record {
+      line = r.line.items;
+      held = slice_range r.piece.items r.at r.end;
+      taken = r.taken;
+      ended = r.ended;
+    } };
 
-    ghost invariant = { λ r. AreKept r.piece.items r.at r.end r.taken (vec_len r.line) (vec_capacity r.line) };
+    ghost invariant = { λ r. AreKept r.piece.items r.at r.end r.taken r.ended
+        × HasRoom (vec_len r.line) (vec_capacity r.line) };
 }
 
 impl LineReader {
     /// A reader that holds nothing yet.
     pub fn new(alloc: Global) -> Result<LineReader, NoMemory>
-        ensures { IfOk result (λ r. r ≡ record { line = []; held = []; taken = 0 }) }
+        ensures { IfOk result (λ r. r ≡ record { line = []; held = []; taken = 0; ended = false }) }
     {
         let Ok(line) = Vec::with_capacity(alloc, MOST_KEPT) else {
             return Err(NoMemory);
@@ -77,6 +84,7 @@ impl LineReader {
             at: 0,
             end: 0,
             taken: 0,
+            ended: false,
         })
     }
 
@@ -94,6 +102,7 @@ impl LineReader {
         ensures open { result ≡ false → HasNoLf self.old.held × (self.new.held ≡ [])
             × (self.new.line ≡ take most_kept (self.old.line ++ self.old.held)) }
         ensures taken { self.new.taken ≡ self.old.taken }
+        ensures same { self.new.ended ≡ self.old.ended }
         ensures bounded { self.new.taken ≤ most_taken }
         ensures within { length self.old.held ≤ self.old.taken }
     {
@@ -121,8 +130,10 @@ impl LineReader {
         ensures some { IfOk result (λ more. IsTrue more ↔ (0 < length self.new.held)) }
         ensures bytes { IsTrue I.tells → I.left source.old ≡ self.new.held ++ I.left source.new }
         ensures end { IsTrue I.tells → result ≡ Ok false → I.left source.old ≡ [] }
-        ensures ended { result ≡ Ok false → self.new.taken < most_taken }
+        ensures fewer { result ≡ Ok false → self.new.taken < most_taken }
+        ensures ended { IfOk result (λ more. self.new.ended ≡ not more) }
         ensures stopped { OnErr result (self.new.held ≡ []) }
+        ensures same { OnErr result (self.new.ended ≡ self.old.ended) }
         ensures limit { IsErrOf result ReadStop.Limit → self.new.taken ≡ most_taken }
         ensures failed { IsErrOf result ReadStop.Failed → Rose (I.faults source.old) (I.faults source.new) }
         ensures later { I.faults source.old ≤ I.faults source.new }
@@ -138,12 +149,15 @@ impl LineReader {
         self.at = 0;
         self.end = count;
         self.taken += count as u64;
+        self.ended = count == 0;
         Ok(count > 0)
     }
 
-    /// Finds the next line of a source, always the same one. After `Last` and `End` a further call asks the source
-    /// again; after a stop, what was taken of the line that was begun is lost.
+    /// Finds the next line of a source, always the same one. After `Last` and `End` each further call answers `End`
+    /// and doesn't ask the source; after a stop, what was taken of the line that was begun is lost.
     pub fn next<I: Source>(&mut self, source: &mut I) -> Result<NextLine, ReadStop>
+        // It is the source that was read before.
+        requires { IsTrue I.tells → HasReadAll self.old (I.left source.old) }
         // The line is the next one of what is held and what the source has left.
         ensures next { IsTrue I.tells → IfOk result
             (λ n. IsNext n self.new.line (self.old.held ++ I.left source.old) (self.new.held ++ I.left source.new)) }
@@ -157,16 +171,23 @@ impl LineReader {
         // 4,294,967,296 bytes were taken before a read answered the end; with an end fewer were.
         ensures limit { IsErrOf result ReadStop.Limit → self.new.taken ≡ most_taken }
         ensures ended { (result ≡ Ok NextLine.Last) ⊎ (result ≡ Ok NextLine.End) → self.new.taken < most_taken }
+        ensures known { (result ≡ Ok NextLine.Last) ⊎ (result ≡ Ok NextLine.End) → IsTrue self.new.ended }
         ensures counted { IsTrue I.tells → self.new.taken + length (I.left source.new) ≡ self.old.taken + length
             (I.left source.old) }
 
         // A line whose LF is held comes before the source is asked again.
         ensures held { Contains self.old.held 10 → (result ≡ Ok NextLine.Line) × (source.new ≡ source.old) }
+        // A source that answered its end has nothing left, and isn't asked again.
+        ensures read_all { IsTrue I.tells → HasReadAll self.new (I.left source.new) }
+        ensures asked_once { IsTrue self.old.ended → (result ≡ Ok NextLine.End) × (source.new ≡ source.old) }
         // Each line takes at least one byte.
         ensures progress { result ≡ Ok NextLine.Line → spent self.old < spent self.new }
         ensures bounded { spent self.new ≤ most_taken }
     {
         self.line.clear();
+        if self.ended {
+            return Ok(NextLine::End);
+        }
         loop {
             if self.take_line() {
                 return Ok(NextLine::Line);

@@ -8,7 +8,7 @@ use Rattle.std.proofs.lemmas.List.Folds.{list_all-append}
 use Rattle.object_model.specs.declared.answer.Answer.{Answer}
 use Rattle.object_model.specs.declared.command.Command.{Command}
 use Rattle.object_model.specs.Step.{Plain}
-use Rattle.printing.specs.Written.{WrittenInPart}
+use Rattle.script_lines.specs.Written.{WrittenInPart}
 use Rattle.script.specs.Print.{answer_text, text}
 use Rattle.script.specs.Script.{Means, lines, without_empty_last}
 use Rattle.script.specs.Words.{split_on}

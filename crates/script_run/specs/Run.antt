@@ -8,7 +8,7 @@ use Rattle.object_model.specs.Step.{Plain}
 use Rattle.script.specs.Print.{text}
 use Rattle.script.specs.Script.{AreCommands, Means, lines}
 use Rattle.script.specs.Words.{split_on}
-use Rattle.printing.specs.Written.{WrittenInPart}
+use Rattle.script_lines.specs.Written.{WrittenInPart}
 use Rattle.tree_answers.specs.Answers.{answer_to, answers_to, is_done}
 use Rattle.script_run.specs.declared.stop.Ended.{Ended}
 use Rattle.script_run.specs.declared.stop.Ended.TheVariants.{AllDone, SomeNot}

@@ -7,7 +7,7 @@ returns-clause-items c =
     let old = c.args.line.now in
     let bytes = c.args.bytes.now in
     let short : length old.items ≤ 65537 = omega (arith, old.ok.0) in
-    let count : c.min-count.result ≡ min (length bytes) (65537 - length old.items) = omega (arith, old.ok.0) in
+    let count : c.min-count.result ≡ min (65537 - length old.items) (length bytes) = omega (arith, old.ok.0) in
     let done = c.extend_from_slice.ensures.succeeds (omega (arith, old.ok.0, length-take c.min-count.result bytes)) in
     c.extend_from_slice.ensures.items
     ∙ ap (λ (b : Bool). cond b (old.items ++ take c.min-count.result bytes) old.items) done

@@ -1,7 +1,6 @@
-use Rattle.std.proofs.Common.{refl}
-use Rattle.mem_store.specs.Held.{view}
+use Rattle.file_ids.specs.Ids.{told}
 use Rattle.mem_store.proofs.memory.MemStore.file_faults.Goals as goal
 
 pub returns : goal.returns
-unfolding view
-returns c = refl
+unfolding told
+returns c = c.own_faults.ensures

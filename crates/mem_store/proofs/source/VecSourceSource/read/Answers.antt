@@ -1,6 +1,6 @@
 use Rattle.std.proofs.Common.{◌≡◌, ◌-◌, ℕ, List, length, take, drop, min, sym, ap, ◌∙◌, arith, rules, inl}
 use Rattle.std.proofs.lemmas.Bool.{false≢true}
-use Rattle.std.proofs.lemmas.List.{drop-drop, drop_all, length-drop}
+use Rattle.std.proofs.lemmas.List.{drop-drop, drop_all, length-drop, take_min}
 use Rattle.mem_store.specs.Ports.{Feed, Numbered}
 use Rattle.mem_store.proofs.source.VecSourceSource.read.Goals as goal
 
@@ -14,23 +14,29 @@ copied n m at bytes b same is = is ∙ ap (λ (x : List ℕ). min m (length x - 
 pub returns-clause-given : goal.returns-clause-given
 returns-clause-given c =
     let left = left_is c.args.self.now c.self.inside.bytes c.self.inside.at _ c.self.view_is in
-    c.copy_out-n.ensures.bytes ∙ ap (λ (b : List ℕ). take c.copy_out-n.result (drop c.self.inside.at b)) c.as_slice.ensures ∙ ap (take c.copy_out-n.result) (sym left)
+    let n = copied _ _ _ _ _ c.as_slice.ensures c.copy_from-n.ensures.count in
+    let b : List ℕ = drop c.self.inside.at c.self.inside.bytes in
+    let some : min (length c.args.out.now) (length b) ≡ c.copy_from-n.result = omega (arith, n, length-drop c.self.inside.at c.self.inside.bytes) in
+    c.copy_from-n.ensures.bytes
+    ∙ ap (λ (b : List ℕ). take (length c.args.out.now) (drop c.self.inside.at b)) c.as_slice.ensures
+    ∙ sym (take_min (length c.args.out.now) b)
+    ∙ (λ j. take (some j) (sym left j))
 
 pub returns-clause-taken : goal.returns-clause-taken
 returns-clause-taken c =
     let left = left_is c.args.self.now c.self.inside.bytes c.self.inside.at _ c.self.view_is in
-    sym (drop-drop c.copy_out-n.result c.self.inside.at c.self.inside.bytes) ∙ ap (drop c.copy_out-n.result) (sym left)
+    sym (drop-drop c.copy_from-n.result c.self.inside.at c.self.inside.bytes) ∙ ap (drop c.copy_from-n.result) (sym left)
 
 pub returns-clause-end : goal.returns-clause-end
 returns-clause-end c = λ none some.
     let left = left_is c.args.self.now c.self.inside.bytes c.self.inside.at _ c.self.view_is in
-    let n = copied _ _ _ _ _ c.as_slice.ensures c.copy_out-n.ensures.count in
+    let n = copied _ _ _ _ _ c.as_slice.ensures c.copy_from-n.ensures.count in
     left ∙ drop_all c.self.inside.at c.self.inside.bytes (omega (arith, n, none, some))
 
 pub returns-clause-had : goal.returns-clause-had
 returns-clause-had c =
     let left = left_is c.args.self.now c.self.inside.bytes c.self.inside.at _ c.self.view_is in
-    let n = copied _ _ _ _ _ c.as_slice.ensures c.copy_out-n.ensures.count in
+    let n = copied _ _ _ _ _ c.as_slice.ensures c.copy_from-n.ensures.count in
     rw left (omega (arith, n, length-drop c.self.inside.at c.self.inside.bytes))
 
 pub returns-clause-exact : goal.returns-clause-exact

@@ -1,4 +1,4 @@
-use Rattle.std.proofs.Common.{◌++◌, ℕ, List, Result, Ok, Err, OnErr, sym, ap, subst, ◌∙◌, inl, inr, arith, refl}
+use Rattle.std.proofs.Common.{◌++◌, ℕ, List, Result, Ok, Err, OnErr, sym, ap, subst, ◌∙◌, inl, inr, arith, refl, not}
 use Rattle.std.proofs.lemmas.Bool.Decides.{nat_tests}
 use Rattle.std.specs.List.{Contains}
 use Rattle.script_lines.specs.Lines.{Reading}
@@ -46,6 +46,7 @@ loop-self-preserved g c =
       counted = λ told.
           let parts = length-parts (left c.loop-self.source) c.fill.new.self.held (left c.fill.new.source) (c.fill.ensures.bytes told) in
           omega (arith, i.counted told, parts, c.fill.ensures.taken, c.take_line.ensures.taken);
+      asking = c.in_ok-fill.ensures.ended ∙ ap not c.if-not-branch.false;
       spent = omega (arith, i.spent, c.fill.ensures.taken, c.take_line.ensures.taken);
       held = λ has. absurd (none has);
       asked = λ has. absurd (none has);

@@ -1,9 +1,6 @@
-//! Text written to a sink.
-#![tactic(auto)]
-
 ghost use Rattle.std.specs.Prelude.{◌≡◌, ◌++◌, IsTrue, OnOk};
 ghost use Rattle.outside.specs.Causes.{HasCause};
-ghost use Rattle.printing.specs.Written.{WrittenInPart};
+ghost use Rattle.script_lines.specs.Written.{WrittenInPart};
 
 use outside::{Failed, Sink};
 

@@ -1,6 +1,6 @@
 use Rattle.std.proofs.Common.{arith}
-use Rattle.printing.proofs.Pieces.{piece_more, piece_within}
-use Rattle.printing.proofs.print.Goals as goal
+use Rattle.script_lines.proofs.PrintLemmas.{piece_more, piece_within}
+use Rattle.script_lines.proofs.printing.print.Goals as goal
 
 pub loop-done-preserved : goal.loop-done-preserved
 loop-done-preserved g c = record {
