@@ -1,5 +1,6 @@
 use Rattle.std.proofs.Common.{◌≡◌, ◌++◌, ◌+◌, ◌≤◌, ℕ, List, [], Result, Ok, Err, length, sym, ap, subst, ◌∙◌, inl, inr, refl, arith}
 use Rattle.std.specs.Prelude.{IfOk, OnOk}
+use Rattle.std.proofs.lemmas.Bool.{false≢true}
 use Rattle.std.proofs.lemmas.Result.{err_from_is_err_and}
 use Rattle.object_model.specs.Step.{Plain}
 use Rattle.outside.specs.Causes.{Rose}
@@ -36,6 +37,9 @@ pub returns-in_default-clause-in_part : goal.returns-in_default-clause-in_part
 returns-in_default-clause-in_part g c = λ told which t is.
     in_part _ t _ _ _ _ _ _ (start g.O.Sink.tells t (g.I.Source.left c.args.input.now) (g.O.Sink.written c.args.out.now)) (λ prints. refl)
 
+pub next-requires : goal.next-requires
+next-requires g c = c.loop-next.invariant.read_all
+
 pub loop-next-init : goal.loop-next-init
 loop-next-init g c = record {
   so_far = λ told t is.
@@ -44,6 +48,7 @@ loop-next-init g c = record {
       subst (λ (l : List ℕ). SoFar g.O.Sink.tells t left (l ++ left) AllDone (g.O.Sink.written c.args.out.now) (g.O.Sink.written c.args.out.now)) (sym none) (start _ t _ _);
   counted = λ told.
       let none : c.in-Ok.reader.taken ≡ 0 = ap (λ (r : Reading). r.taken) c.in-Ok.ensures in omega arith;
+  read_all = λ told is. absurd (false≢true (sym (ap (λ (r : Reading). r.ended) c.in-Ok.ensures) ∙ is));
   input_later = omega arith;
   output_later = omega arith;
 }
@@ -74,6 +79,7 @@ loop-next-preserved g c = record {
       let n = next_at _ Line _ c.line.result.now _ _ (c.in-Ok-next.ensures.next told) c.in-Line.is c.line.ensures in
       line_more _ t _ _ _ _ _ _ _ _ _ (c.loop-next.invariant.so_far told t is) n (c.in_ok-ended-in-Line.ensures.answered t is);
   counted = λ told. c.next.ensures.counted told ∙ c.loop-next.invariant.counted told;
+  read_all = c.next.ensures.read_all;
   input_later = omega (arith, c.loop-next.invariant.input_later, c.next.ensures.later);
   output_later = omega (arith, c.loop-next.invariant.output_later, c.answer_line.ensures.later);
 }
