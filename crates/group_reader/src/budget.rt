@@ -6,8 +6,8 @@ use h5_base::Stop;
 /// The bytes of all names and soft links' values of a file that are kept.
 const MOST_TEXTS: u64 = 268_435_456;
 
-/// How many more bytes of the names and the soft links' values of a file are kept. Texts of a local heap may overlap, so
-/// that a small file can tell names of many gigabytes.
+/// How many more bytes of the names and the soft links' values of a file are kept. Texts of a local heap may overlap,
+/// so that a small file can tell names of many gigabytes.
 #[derive(Debug, Drop)]
 pub struct TextBudget {
     /// In bytes.
