@@ -23,12 +23,8 @@ behind_is before now added is =
     ∙ (λ j. drop (sym (length-map before found_of) j) (is j))
     ∙ drop-append_seam (links_of before) added
 
-pub rest_is : (begin : ℕ) (x : List FoundLink) → take (length x - begin) (drop begin x) ≡ drop begin x
+rest_is : (begin : ℕ) (x : List FoundLink) → take (length x - begin) (drop begin x) ≡ drop begin x
 rest_is begin x = take_all (length x - begin) (drop begin x) (omega (arith, length-drop begin x))
-
-pub slice_is : (begin : ℕ) (before now x : List FoundLink) (added : List Found) → begin ≡ length before → x ≡ now → links_of now ≡ links_of before ++ added → links_of (take (length x - begin) (drop begin x)) ≡ added
-slice_is begin before now x added b e is =
-    ap (λ (l : List FoundLink). links_of l) (rest_is begin x) ∙ (λ j. links_of (drop (b j) (e j))) ∙ behind_is before now added is
 
 -- what was kept before a middle, where more was kept behind it
 pub middle_is : (begin middle : ℕ) (before links now x : List FoundLink) (done here : List Found) → begin ≡ length before → middle ≡ length links → x ≡ now → links_of links ≡ links_of before ++ done → links_of now ≡ links_of links ++ here

@@ -86,10 +86,6 @@ lie_between low high (z ∷ xs) x y first last o above below =
     let f : last_of (found_of z) (links_of xs) ≡ found_of y = last_is z xs y last in
     all_between low high (found_of z) (links_of xs) o (ap (λ (l : FoundLink). name_lt low l.name) e ∙ above) (ap (λ (l : Found). name_lt high l.name) f ∙ below)
 
-pub lies_above : (low high : Name) (xs : List FoundLink) (x : FoundLink) → slice_get xs 0 ≡ Some x → AreBetween low high (links_of xs) → name_lt low x.name ≡ true
-lies_above low high [] x first h = let none : None ≡ Some x = first in cc
-lies_above low high (z ∷ xs) x first h = let e : x ≡ z = cc in ap (λ (l : FoundLink). name_lt low l.name) e ∙ h.0.0
-
 pub lies_below : (low high : Name) (xs : List FoundLink) (y : FoundLink) → slice_get xs (length xs - 1) ≡ Some y → AreBetween low high (links_of xs) → name_lt high y.name ≡ false
 lies_below low high [] y last h = let none : None ≡ Some y = last in cc
 lies_below low high (z ∷ xs) y last h =
@@ -100,6 +96,3 @@ pub between_answer : (low high : Name) (xs : List FoundLink) (x y : FoundLink) (
     → IsAnswer (not r) (AreBetween low high (links_of xs))
 between_answer low high xs x y true first last above is o = (λ yes. (cc), λ all. let no = lies_below low high xs y last all in (cc))
 between_answer low high xs x y false first last above is o = (λ yes. lie_between low high xs x y first last o above (sym is), λ all. refl)
-
-pub not_above : (low high : Name) (xs : List FoundLink) (x : FoundLink) (r : Bool) → slice_get xs 0 ≡ Some x → r ≡ name_lt low x.name → r ≡ false → AreBetween low high (links_of xs) → ⊥
-not_above low high xs x r first is wrong all = let yes = lies_above low high xs x first all in cc

@@ -25,8 +25,8 @@ links_of = map found_of
 abbrev pub IsTold : List ℕ → (done : List Found) → SnodEntry → List Found → Type 0
 IsTold segment done e fs = AreLinks segment (e ∷ []) fs × AreOrdered (names_of (done ++ fs))
 
--- Links of a part of the group were kept behind the others, in the order of their names, and their texts were taken from
--- the budget.
+-- Links of a part of the group were kept behind the others, in the order of their names, and their texts were taken
+-- from the budget.
 pub record Adds (before now : Gathered) (Part : List Found → Type 0) : Type 0 where
   pub added : List Found
   pub behind : links_of now.links.items ≡ links_of before.links.items ++ added

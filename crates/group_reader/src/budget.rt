@@ -1,4 +1,4 @@
-ghost use Rattle.std.specs.Prelude.{◌≡◌, ◌+◌, OnOk, OnErr, IfErr};
+ghost use Rattle.std.specs.Prelude.{◌≡◌, ◌+◌, ◌<◌, OnOk, OnErr, IfErr};
 ghost use Rattle.file_model.specs.Limits.{most_texts};
 
 use h5_base::Stop;
@@ -6,8 +6,8 @@ use h5_base::Stop;
 /// The bytes of all names and soft links' values of a file that are kept.
 const MOST_TEXTS: u64 = 268_435_456;
 
-/// How many more bytes of the names and the soft links' values of a file are kept. Texts of a local heap may overlap, so
-/// that a small file can tell names of many gigabytes.
+/// How many more bytes of the names and the soft links' values of a file are kept. Texts of a local heap may overlap,
+/// so that a small file can tell names of many gigabytes.
 #[derive(Debug, Drop)]
 pub struct TextBudget {
     /// In bytes.
@@ -25,6 +25,7 @@ impl TextBudget {
     /// Takes so many bytes. Where fewer are left, it takes none and answers want of memory.
     pub(crate) fn take(&mut self, len: usize) -> Result<(), Stop>
         ensures taken { OnOk result (len + self.new.left ≡ self.old.left) }
+        ensures short { OnErr result (self.old.left < len) }
         ensures same { OnErr result (self.new.left ≡ self.old.left) }
         ensures memory { IfErr result (λ stop. stop ≡ Stop.NoMemory) }
     {

@@ -26,10 +26,7 @@ fn keep_text(alloc: Global, text: &[u8], texts: &mut TextBudget) -> Result<Bytes
     ensures memory { IfErr result (λ stop. stop ≡ Stop.NoMemory) }
 {
     texts.take(text.len())?;
-    match Bytes::from_slice(alloc, text) {
-        Ok(kept) => Ok(kept),
-        Err(_) => Err(Stop::NoMemory),
-    }
+    Ok(Bytes::from_slice(alloc, text)?)
 }
 
 /// What an entry leads to.

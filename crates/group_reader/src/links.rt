@@ -49,12 +49,12 @@ fn read_tree<V: Space>(
 /// of the names and of soft links' values are taken from the budget of the file.
 ///
 /// The heap is refused first, then the nodes, each with all under it from left to right, and of each entry its name,
-/// then the name's order, then a soft link's value: `Malformed` where bytes don't spell the kind of block that is wanted
-/// there or a block leaves its region, where a name, a key or a soft link's value isn't in the heap, or where names
-/// don't ascend or don't lie between the keys beside them; `LinkedTwice` and `Overlap` where a block shares bytes with
-/// one that was met before; `TooMany` past the last block that a catalogue takes; and `Unsupported` where the heap's
-/// segment has more than 16,777,216 bytes. `NoMemory` comes for want of memory, and where the texts need more than is
-/// left of the budget.
+/// then the name's order, then a soft link's value: `Malformed` where bytes don't spell the kind of block that is
+/// wanted there or a block leaves its region, where a name, a key or a soft link's value isn't in the heap, or where
+/// names don't ascend or don't lie between the keys beside them; `LinkedTwice` and `Overlap` where a block shares bytes
+/// with one that was met before; `TooMany` past the last block that a catalogue takes; and `Unsupported` where the
+/// heap's segment has more than 16,777,216 bytes. `NoMemory` comes for want of memory, and where the texts need more
+/// than is left of the budget.
 pub fn read_links<V: Space>(
     alloc: Global,
     blocks: &mut Blocks<V>,
