@@ -16,3 +16,8 @@ pub mod NoGroups
 pub mod NoChunks
 pub mod NoRefusal
 pub mod BitesLemmas
+pub mod HeldOrder
+pub mod BlockOrder
+pub mod PathBlocks
+pub mod LinkEdits
+pub mod EditFull

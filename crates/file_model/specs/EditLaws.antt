@@ -1,0 +1,143 @@
+-- Laws of edits: what order names have, which blocks an edited tree has, and that the edited file is held. Each is the
+-- clause of a small public function of this crate.
+use Rattle.std.specs.Prelude.{◌≡◌, ◌↔◌, ℕ, List, [], ◌∷◌, ◌++◌, map, None, Some, Ok}
+use Rattle.std.specs.List.Sorted.{IsPermutation}
+use Rattle.std.specs.Option.{option_map}
+use Rattle.outside.specs.Array.{Array}
+use Rattle.outside.specs.Blocks.{Block, Bounds, IsApart, AllApart, AreKept, Agree}
+use Rattle.super_codec.specs.Super.{Spells, super_len}
+use Rattle.super_codec.specs.declared.superblock.Superblock.{Superblock}
+use Rattle.object_model.specs.Tree.{Tree, Group, Links, Name, names, AreOrdered, IsOrdered, find, walk, edit, insert, remove, map_links, ◌>>=◌}
+use Rattle.object_model.specs.Step.{Plain, PlainLinks}
+use Rattle.file_model.specs.Groups.{Ks, Found}
+use Rattle.file_model.specs.Holds.{Full, FullLinks, GroupAt, IsHeld, blocks_of, blocks_in, founds, target_of, plain}
+use Rattle.file_model.specs.Holds.{object_of, ks_of, super_bytes_of, HoldsFull}
+use Rattle.file_model.specs.Laws.{beside, Rises, all_blocks}
+
+-- the names of each group of a tree that is held ascend
+abbrev pub HeldOrder : Type 0
+HeldOrder = (b : Array) (ks : Ks) (t : Full) → IsHeld b ks t → IsOrdered t
+
+-- ---- blocks
+
+-- the blocks of a tree are those beside a path and those of what the path leads to
+abbrev pub PathBlocks : Type 0
+PathBlocks = (p : List Name) (t u : Full) → walk t p ≡ Ok u → IsPermutation (blocks_of t) (beside p t ++ blocks_of u)
+
+-- an edit leaves the blocks beside its path
+abbrev pub BesideEdit : Type 0
+BesideEdit = (p : List Name) (f : Full → Full) (t : Full) → beside p (edit p f t) ≡ beside p t
+
+-- blocks are apart in any order
+abbrev pub ApartOrder : Type 0
+ApartOrder = (xs ys : List Block) → IsPermutation xs ys → AllApart xs → AllApart ys
+
+-- and kept in any order
+abbrev pub KeptOrder : Type 0
+KeptOrder = (e : Bounds) (xs ys : List Block) → IsPermutation xs ys → AreKept e xs → AreKept e ys
+
+-- the blocks of a tree are apart where those beside a path and those of what it leads to are apart together
+abbrev pub PathApart : Type 0
+PathApart = (p : List Name) (t u : Full) → walk t p ≡ Ok u
+    → AllApart (blocks_of t) ↔ AllApart (beside p t ++ blocks_of u)
+
+-- each of the one list is apart from each of the other
+abbrev pub AreApartFrom : List Block → List Block → Type 0
+AreApartFrom [] ys = Unit {0}
+AreApartFrom (x ∷ xs) ys = IsApart x ys × AreApartFrom xs ys
+
+-- two lists are kept together where each is kept, and the one apart from the other
+abbrev pub KeptTogether : Type 0
+KeptTogether = (e : Bounds) (xs ys : List Block)
+    → AreKept e (xs ++ ys) ↔ (AreKept e xs × AreKept e ys × AreApartFrom ys xs)
+
+-- ---- the file
+
+-- the blocks of a file beside those of what a path leads to
+abbrev pub file_beside : Superblock → List Block → List Name → Full → List Block
+file_beside s driver p t = record { start = 0; len = super_len s.version } ∷ driver ++ beside p t
+
+-- all blocks of a file are those, and those of what the path leads to
+abbrev pub FileBlocks : Type 0
+FileBlocks = (s : Superblock) (driver : List Block) (p : List Name) (t u : Full) → walk t p ≡ Ok u
+    → IsPermutation (all_blocks s driver t) (file_beside s driver p t ++ blocks_of u)
+
+-- The whole file with the edited tree is held: an object with the same target is held in other bytes, which agree with
+-- the first beside what the path leads to; its blocks are kept, and apart from those.
+abbrev pub EditFull : Type 0
+EditFull = (b c : Array) (e f : Bounds) (s : Superblock) (g g' : GroupAt) (ls ls' : FullLinks) (p : List Name)
+    (u v : Full) (h : HoldsFull b e s g ls)
+    → walk (Group g ls) p ≡ Ok u → target_of v ≡ target_of u → IsHeld c (ks_of s) v
+    → Rises e f → Agree b c (file_beside s h.driver p (Group g ls))
+    → AreKept f (blocks_of v) → AreApartFrom (blocks_of v) (file_beside s h.driver p (Group g ls))
+    → edit p (λ _. v) (Group g ls) ≡ Group g' ls'
+    → HoldsFull c f s g' ls'
+
+-- Another end of the file in the superblock, and all other blocks as they were: the same tree is held.
+abbrev pub EndFull : Type 0
+EndFull = (b c : Array) (e f : Bounds) (s : Superblock) (n : ℕ) (g : GroupAt) (ls : FullLinks) (h : HoldsFull b e s g ls)
+    → Rises e f → Spells (record s { end_at = n }) (super_bytes_of c f)
+    → Agree b c (h.driver ++ blocks_of (Group g ls))
+    → HoldsFull c f (record s { end_at = n }) g ls
+
+-- ---- links with one more or one fewer
+
+-- the second list is the first with one more, at some place
+pub record IsOneMore {X : Type 0} (x : X) (xs ys : List X) : Type 0 where
+  pub before : List X
+  pub later : List X
+  pub without : xs ≡ before ++ later
+  pub whole : ys ≡ before ++ x ∷ later
+
+-- a name that is inserted adds one link, and the blocks behind it
+abbrev pub InsertOne : Type 0
+InsertOne = (ls : FullLinks) (n : Name) (t : Full)
+    → IsOneMore (record { name = n; target = target_of t }) (founds ls) (founds (insert ls n t))
+    × IsPermutation (blocks_of t ++ blocks_in ls) (blocks_in (insert ls n t))
+
+-- a name that is removed takes one link away, and the blocks behind it
+abbrev pub RemoveOne : Type 0
+RemoveOne = (ls : FullLinks) (n : Name) (t : Full) → find ls n ≡ Some t
+    → IsOneMore (record { name = n; target = target_of t }) (founds (remove ls n)) (founds ls)
+    × IsPermutation (blocks_of t ++ blocks_in (remove ls n)) (blocks_in ls)
+
+-- the names told are those of the links
+abbrev pub FoundNames : Type 0
+FoundNames = (ls : FullLinks) → map (λ f. f.name) (founds ls) ≡ names ls
+
+-- where names ascend, they ascend with a new one
+abbrev pub InsertOrder : Type 0
+InsertOrder = (ls : FullLinks) (n : Name) (t : Full) → AreOrdered (names ls) → find ls n ≡ None
+    → AreOrdered (names (insert ls n t))
+
+-- and with one fewer
+abbrev pub RemoveOrder : Type 0
+RemoveOrder = (ls : FullLinks) (n : Name) → AreOrdered (names ls) → AreOrdered (names (remove ls n))
+
+-- an edit at a path is the edit by what stands there
+abbrev pub EditThere : Type 0
+EditThere = (p : List Name) (f : Full → Full) (t u : Full) → walk t p ≡ Ok u → edit p f t ≡ edit p (λ _. f u) t
+
+-- ---- without places
+
+-- the links without places
+abbrev pub plain_links : FullLinks → PlainLinks
+plain_links ls = map_links (λ _. tt) object_of ls
+
+abbrev pub PlainFind : Type 0
+PlainFind = (ls : FullLinks) (n : Name) → find (plain_links ls) n ≡ option_map plain (find ls n)
+
+abbrev pub PlainInsert : Type 0
+PlainInsert = (ls : FullLinks) (n : Name) (t : Full)
+    → plain_links (insert ls n t) ≡ insert (plain_links ls) n (plain t)
+
+abbrev pub PlainRemove : Type 0
+PlainRemove = (ls : FullLinks) (n : Name) → plain_links (remove ls n) ≡ remove (plain_links ls) n
+
+abbrev pub PlainWalk : Type 0
+PlainWalk = (p : List Name) (t : Full) → walk (plain t) p ≡ (walk t p >>= λ u. Ok (plain u))
+
+-- an edit by a change that is the same with and without places
+abbrev pub PlainChange : Type 0
+PlainChange = (p : List Name) (f : Full → Full) (h : Plain → Plain) (t : Full)
+    → ((u : Full) → walk t p ≡ Ok u → plain (f u) ≡ h (plain u)) → plain (edit p f t) ≡ edit p h (plain t)

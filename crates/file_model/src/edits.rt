@@ -1,0 +1,68 @@
+//! Laws of edits. Each function does nothing: its clause is the law.
+
+ghost use Rattle.file_model.specs.EditLaws.{HeldOrder, PathBlocks, ApartOrder, KeptOrder, PathApart, KeptTogether};
+ghost use Rattle.file_model.specs.EditLaws.{EditFull, InsertOne, RemoveOne, FoundNames, InsertOrder, RemoveOrder};
+ghost use Rattle.file_model.specs.EditLaws.{EditThere, PlainFind, PlainInsert, PlainRemove, PlainWalk, PlainChange};
+ghost use Rattle.file_model.specs.EditLaws.{FileBlocks, BesideEdit, EndFull};
+
+/// The names of each group of a tree that is held ascend.
+pub fn held_order()
+    ensures { HeldOrder }
+{}
+
+/// The blocks of a tree are those beside a path and those of what the path leads to. An edit leaves the first.
+pub fn path_blocks()
+    ensures blocks { PathBlocks }
+    ensures file { FileBlocks }
+    ensures edit { BesideEdit }
+    ensures apart { PathApart }
+{}
+
+/// Blocks are apart, and kept, in any order; two lists are kept together where each is kept, and the one apart from
+/// the other.
+pub fn block_order()
+    ensures apart { ApartOrder }
+    ensures kept { KeptOrder }
+    ensures together { KeptTogether }
+{}
+
+/// The whole file with the edited tree is held.
+pub fn edit_full()
+    ensures { EditFull }
+{}
+
+/// The file with another end told in its superblock is held.
+pub fn end_full()
+    ensures { EndFull }
+{}
+
+/// A new name adds one link in its place in the order, and the blocks behind it.
+pub fn insert_one()
+    ensures one { InsertOne }
+    ensures order { InsertOrder }
+{}
+
+/// A name that is removed takes one link away, and the blocks behind it.
+pub fn remove_one()
+    ensures one { RemoveOne }
+    ensures order { RemoveOrder }
+{}
+
+/// The links that are told have the names of the tree's links.
+pub fn found_names()
+    ensures { FoundNames }
+{}
+
+/// An edit at a path is the edit by what stands there.
+pub fn edit_there()
+    ensures { EditThere }
+{}
+
+/// What names and paths lead to, and links with one more and one fewer, are the same with and without places.
+pub fn plain_links()
+    ensures find { PlainFind }
+    ensures insert { PlainInsert }
+    ensures remove { PlainRemove }
+    ensures walk { PlainWalk }
+    ensures change { PlainChange }
+{}
