@@ -1,16 +1,14 @@
 -- The file with an edited tree is held.
-use Rattle.std.proofs.Common.{◌≡◌, ℕ, Bool, true, false, cond, List, [], ◌∷◌, ◌++◌, Option, Some, Ok, refl, sym, ◌∙◌, ap, subst}
+use Rattle.std.proofs.Common.{◌≡◌, Bool, true, false, cond, List, [], ◌∷◌, ◌++◌, Ok, refl, sym, ◌∙◌, ap, subst}
 use Rattle.std.specs.List.Sorted.{IsPermutation}
 use Rattle.std.proofs.lemmas.List.Sorted.{IsPermutation-sym, IsPermutation-cons}
-use Rattle.outside.specs.Array.{Array}
-use Rattle.outside.specs.Blocks.{Block, Bounds, AreKept, Agree}
+use Rattle.outside.specs.Blocks.{Block, Bounds, AreKept}
 use Rattle.h5_base.specs.declared.extent.MemClass.TheVariants.{Super}
 use Rattle.super_codec.specs.Super.{super_len}
 use Rattle.super_codec.specs.declared.superblock.Superblock.{Superblock}
 use Rattle.object_model.specs.Tree.{Group, Leaf, Empty, Link, Name, same_name, walk, edit, replace}
 use Rattle.object_model.proofs.TreeLemmas.{walk-edit}
-use Rattle.file_model.specs.Holds.{Full, FullLinks, GroupAt, IsHeld, blocks_of, blocks_in, target_of, ks_of, HasDriver, HoldsFull}
-use Rattle.file_model.specs.Groups.{Header}
+use Rattle.file_model.specs.Holds.{Full, FullLinks, GroupAt, IsHeld, blocks_of, blocks_in, target_of, ks_of, HasDriver}
 use Rattle.file_model.specs.Laws.{beside, beside_in, Rises, all_blocks}
 use Rattle.file_model.specs.EditLaws.{BesideEdit, FileBlocks, EditFull, EndFull, AreApartFrom, file_beside}
 use Rattle.file_model.proofs.FrameBytes.{agree_left, agree_right}

@@ -1,9 +1,9 @@
 -- Names of a tree that is held ascend.
-use Rattle.std.proofs.Common.{◌≡◌, List, [], ◌∷◌, map, refl, ap, subst}
+use Rattle.std.proofs.Common.{List, ◌∷◌, refl, ap, subst}
 use Rattle.outside.specs.Array.{Array}
-use Rattle.object_model.specs.Tree.{Group, Leaf, Empty, Link, Name, names, AreOrdered, IsOrdered, AreOrderedBelow}
+use Rattle.object_model.specs.Tree.{Group, Leaf, Empty, Link, Name, AreOrdered, IsOrdered, AreOrderedBelow}
 use Rattle.file_model.specs.Groups.{Ks}
-use Rattle.file_model.specs.Holds.{Full, FullLinks, IsHeld, AreHeld, founds}
+use Rattle.file_model.specs.Holds.{Full, FullLinks, IsHeld, AreHeld}
 use Rattle.file_model.specs.EditLaws.{HeldOrder, FoundNames}
 
 pub found_names : FoundNames

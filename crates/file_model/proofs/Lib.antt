@@ -21,3 +21,4 @@ pub mod BlockOrder
 pub mod PathBlocks
 pub mod LinkEdits
 pub mod EditFull
+pub mod EndWritten

@@ -6,7 +6,7 @@ use Rattle.std.specs.List.Sorted.{IsPermutation}
 use Rattle.std.proofs.lemmas.List.Sorted.{IsPermutation-refl, IsPermutation-trans, IsPermutation-append_left, IsPermutation-append_right, IsPermutation-append_comm}
 use Rattle.object_model.specs.declared.answer.Code.TheVariants.{Absent}
 use Rattle.object_model.specs.Tree.{Group, Leaf, Empty, Link, Name, same_name, name_lt, find, walk, edit, replace, insert, remove, ◌>>=◌}
-use Rattle.object_model.specs.Step.{Plain, PlainLinks}
+use Rattle.object_model.specs.Step.{Plain}
 use Rattle.object_model.proofs.TreeLemmas.{same_or_not}
 use Rattle.object_model.proofs.OrderLemmas.{ordered-insert, ordered-remove}
 use Rattle.outside.specs.Blocks.{Block}

@@ -5,7 +5,7 @@ use Rattle.std.specs.List.Sorted.{IsPermutation}
 use Rattle.std.proofs.lemmas.List.Sorted.{IsPermutation-refl, IsPermutation-sym, IsPermutation-trans, IsPermutation-append_left, IsPermutation-append_right, IsPermutation-append_comm}
 use Rattle.object_model.specs.declared.answer.Code.TheVariants.{Absent}
 use Rattle.object_model.specs.Tree.{Group, Leaf, Empty, Link, Name, same_name, find, walk}
-use Rattle.outside.specs.Blocks.{Block, AllApart}
+use Rattle.outside.specs.Blocks.{Block}
 use Rattle.file_model.specs.Holds.{Full, FullLinks, GroupAt, blocks_of, blocks_in}
 use Rattle.file_model.specs.Laws.{beside, beside_in}
 use Rattle.file_model.specs.EditLaws.{PathBlocks, PathApart}

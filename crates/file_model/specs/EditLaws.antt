@@ -1,15 +1,18 @@
 -- Laws of edits: what order names have, which blocks an edited tree has, and that the edited file is held. Each is the
 -- clause of a small public function of this crate.
-use Rattle.std.specs.Prelude.{◌≡◌, ◌↔◌, ℕ, List, [], ◌∷◌, ◌++◌, map, None, Some, Ok}
+use Rattle.std.specs.Prelude.{◌≡◌, ◌↔◌, ℕ, ◌+◌, ◌^◌, ◌<◌, ◌≤◌, List, [], ◌∷◌, ◌++◌, map, None, Some, Ok}
 use Rattle.std.specs.List.Sorted.{IsPermutation}
 use Rattle.std.specs.Option.{option_map}
-use Rattle.outside.specs.Array.{Array}
+use Rattle.std.specs.Int.{w64, to_le_bytes}
+use Rattle.outside.specs.Array.{Array, bytes_of}
+use Rattle.h5_base.specs.declared.extent.MemClass.TheVariants.{Super}
 use Rattle.outside.specs.Blocks.{Block, Bounds, IsApart, AllApart, AreKept, Agree}
-use Rattle.super_codec.specs.Super.{Spells, super_len}
+use Rattle.super_codec.specs.Super.{Spells, base_at, super_len}
 use Rattle.super_codec.specs.declared.superblock.Superblock.{Superblock}
-use Rattle.object_model.specs.Tree.{Tree, Group, Links, Name, names, AreOrdered, IsOrdered, find, walk, edit, insert, remove, map_links, ◌>>=◌}
+use Rattle.object_model.specs.Tree.{Group, Name, names, AreOrdered, IsOrdered, find, walk, edit, insert}
+use Rattle.object_model.specs.Tree.{remove, map_links, ◌>>=◌}
 use Rattle.object_model.specs.Step.{Plain, PlainLinks}
-use Rattle.file_model.specs.Groups.{Ks, Found}
+use Rattle.file_model.specs.Groups.{Ks}
 use Rattle.file_model.specs.Holds.{Full, FullLinks, GroupAt, IsHeld, blocks_of, blocks_in, founds, target_of, plain}
 use Rattle.file_model.specs.Holds.{object_of, ks_of, super_bytes_of, HoldsFull}
 use Rattle.file_model.specs.Laws.{beside, Rises, all_blocks}
@@ -75,10 +78,27 @@ EditFull = (b c : Array) (e f : Bounds) (s : Superblock) (g g' : GroupAt) (ls ls
 
 -- Another end of the file in the superblock, and all other blocks as they were: the same tree is held.
 abbrev pub EndFull : Type 0
-EndFull = (b c : Array) (e f : Bounds) (s : Superblock) (n : ℕ) (g : GroupAt) (ls : FullLinks) (h : HoldsFull b e s g ls)
+EndFull = (b c : Array) (e f : Bounds) (s : Superblock) (n : ℕ) (g : GroupAt) (ls : FullLinks)
+    (h : HoldsFull b e s g ls)
     → Rises e f → Spells (record s { end_at = n }) (super_bytes_of c f)
     → Agree b c (h.driver ++ blocks_of (Group g ls))
     → HoldsFull c f (record s { end_at = n }) g ls
+
+-- where a superblock tells the end of the file, in 8 bytes
+abbrev pub end_place : ℕ → ℕ
+end_place version = base_at version + 16
+
+-- its bytes before the field, and the 48 behind it
+abbrev pub beside_end : ℕ → List Block
+beside_end version =
+    record { start = 0; len = end_place version } ∷ record { start = end_place version + 8; len = 48 } ∷ []
+
+-- where another end is written there, and nothing else of a superblock, the superblock with that end is spelled
+abbrev pub EndWritten : Type 0
+EndWritten = (b c : Array) (e f : Bounds) (s : Superblock) (n : ℕ) → n < 2 ^ 64 → Spells s (super_bytes_of b e)
+    → e.ends Super ≤ f.ends Super → Agree b c (beside_end s.version)
+    → bytes_of c (end_place s.version) 8 ≡ to_le_bytes w64 n
+    → Spells (record s { end_at = n }) (super_bytes_of c f)
 
 -- ---- links with one more or one fewer
 

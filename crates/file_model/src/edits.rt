@@ -3,7 +3,7 @@
 ghost use Rattle.file_model.specs.EditLaws.{HeldOrder, PathBlocks, ApartOrder, KeptOrder, PathApart, KeptTogether};
 ghost use Rattle.file_model.specs.EditLaws.{EditFull, InsertOne, RemoveOne, FoundNames, InsertOrder, RemoveOrder};
 ghost use Rattle.file_model.specs.EditLaws.{EditThere, PlainFind, PlainInsert, PlainRemove, PlainWalk, PlainChange};
-ghost use Rattle.file_model.specs.EditLaws.{FileBlocks, BesideEdit, EndFull};
+ghost use Rattle.file_model.specs.EditLaws.{FileBlocks, BesideEdit, EndFull, EndWritten};
 
 /// The names of each group of a tree that is held ascend.
 pub fn held_order()
@@ -31,9 +31,10 @@ pub fn edit_full()
     ensures { EditFull }
 {}
 
-/// The file with another end told in its superblock is held.
+/// The file with another end told in its superblock is held. The end is written as 8 bytes.
 pub fn end_full()
-    ensures { EndFull }
+    ensures held { EndFull }
+    ensures written { EndWritten }
 {}
 
 /// A new name adds one link in its place in the order, and the blocks behind it.
