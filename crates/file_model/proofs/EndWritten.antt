@@ -1,8 +1,8 @@
 -- The field of a superblock that tells the end of the file is written, and nothing else.
-use Rattle.std.proofs.Common.{◌≡◌, ℕ, zero, suc, ◌+◌, ◌-◌, ◌<◌, ◌≤◌, Bool, true, false, List, length, take, drop, refl, sym, ap, subst, ◌∙◌, arith}
+use Rattle.std.proofs.Common.{◌≡◌, ℕ, ◌+◌, ◌<◌, ◌≤◌, Bool, true, false, List, length, take, drop, sym, ap, subst, ◌∙◌, arith}
 use Rattle.std.specs.Prelude.{◌==◌, min, slice_index, if◌then◌else◌}
 use Rattle.std.specs.Int.{w16, w32, w64, to_le_bytes, from_le_bytes}
-use Rattle.std.proofs.lemmas.List.FromFn.{length-map-range_with_len, take-map-range_with_len, get_or-map-range_with_len}
+use Rattle.std.proofs.lemmas.List.FromFn.{length-map-range_with_len}
 use Rattle.std.proofs.lemmas.List.{drop-drop}
 use Rattle.std.proofs.lemmas.Nat.{from_le_bytes-to_le_bytes_8}
 use Rattle.outside.specs.Array.{Array, bytes_of}
@@ -11,37 +11,8 @@ use Rattle.h5_base.specs.Fields.{bytes_at, u16_at, u32_at, u64_at}
 use Rattle.super_codec.specs.Super.{Spells, IsK, base_at, chunk_k_of, root_in, rest_of, super_len, version_of}
 use Rattle.super_codec.specs.declared.superblock.Superblock.{Superblock}
 use Rattle.file_model.specs.EditLaws.{EndWritten}
-use Rattle.file_model.proofs.FrameBytes.{Same, bytes_same, within_same}
-
--- ---- parts of bytes
-
-drop_bytes : (b : Array) (at n k : ℕ) → k ≤ n → drop k (bytes_of b at n) ≡ bytes_of b (at + k) (n - k)
-drop_bytes b at n zero le = let a : at + 0 ≡ at = omega arith in let m : n - 0 ≡ n = omega arith in rw (a, m) refl
-drop_bytes b at zero (suc k) le = absurd (omega arith)
-drop_bytes b at (suc n) (suc k) le =
-    let a : at + 1 + k ≡ at + suc k = omega arith in
-    let m : n - k ≡ suc n - suc k = omega arith in
-    drop_bytes b (at + 1) n k (omega arith) ∙ (λ j. bytes_of b (a j) (m j))
-
-part_bytes : (b : Array) (at n k m : ℕ) → k + m ≤ n → bytes_at (bytes_of b at n) k m ≡ bytes_of b (at + k) m
-part_bytes b at n k m le = ap (take m) (drop_bytes b at n k (omega arith)) ∙ take-map-range_with_len b (at + k) (n - k) m (omega arith)
-
--- two arrays with the same bytes there
-part_same : (b c : Array) (m n k w : ℕ) → k + w ≤ m → k + w ≤ n → Same b c k w → bytes_at (bytes_of b 0 m) k w ≡ bytes_at (bytes_of c 0 n) k w
-part_same b c m n k w le le' same =
-    let here : 0 + k ≡ k = omega arith in
-    part_bytes b 0 m k w le ∙ rw here (bytes_same b c k w same) ∙ sym (part_bytes c 0 n k w le')
-
--- and the same behind a place
-behind_same : (b c : Array) (m n p k w : ℕ) → p + k + w ≤ m → p + k + w ≤ n → Same b c (p + k) w → bytes_at (drop p (bytes_of b 0 m)) k w ≡ bytes_at (drop p (bytes_of c 0 n)) k w
-behind_same b c m n p k w le le' same =
-    ap (take w) (drop-drop k p (bytes_of b 0 m)) ∙ part_same b c m n (p + k) w le le' same ∙ ap (take w) (sym (drop-drop k p (bytes_of c 0 n)))
-
-byte_same : (b c : Array) (m n i : ℕ) → i < m → i < n → b i ≡ c i → slice_index (bytes_of b 0 m) i ≡ slice_index (bytes_of c 0 n) i
-byte_same b c m n i lt lt' same =
-    get_or-map-range_with_len b 0 m i i 0 lt (omega arith) ∙ same ∙ sym (get_or-map-range_with_len c 0 n i i 0 lt' (omega arith))
-
--- ---- the superblock
+use Rattle.file_model.proofs.PartBytes.{part_bytes, part_same, behind_same, byte_same}
+use Rattle.file_model.proofs.FrameBytes.{Same, within_same}
 
 base_least : (t : Bool) → 24 ≤ (if t then 28 else 24)
 base_least true = omega arith

@@ -22,3 +22,5 @@ pub mod PathBlocks
 pub mod LinkEdits
 pub mod EditFull
 pub mod EndWritten
+pub mod PartBytes
+pub mod NewHeaders

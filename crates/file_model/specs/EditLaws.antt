@@ -1,6 +1,6 @@
 -- Laws of edits: what order names have, which blocks an edited tree has, and that the edited file is held. Each is the
 -- clause of a small public function of this crate.
-use Rattle.std.specs.Prelude.{◌≡◌, ◌↔◌, ℕ, ◌+◌, ◌^◌, ◌<◌, ◌≤◌, List, [], ◌∷◌, ◌++◌, map, None, Some, Ok}
+use Rattle.std.specs.Prelude.{◌≡◌, ◌↔◌, ℕ, ◌+◌, ◌-◌, ◌^◌, ◌<◌, ◌≤◌, false, List, [], ◌∷◌, ◌++◌, length, map, None, Some, Ok}
 use Rattle.std.specs.List.Sorted.{IsPermutation}
 use Rattle.std.specs.Option.{option_map}
 use Rattle.std.specs.Int.{w64, to_le_bytes}
@@ -9,9 +9,22 @@ use Rattle.h5_base.specs.declared.extent.MemClass.TheVariants.{Super}
 use Rattle.outside.specs.Blocks.{Block, Bounds, IsApart, AllApart, AreKept, Agree}
 use Rattle.super_codec.specs.Super.{Spells, base_at, super_len}
 use Rattle.super_codec.specs.declared.superblock.Superblock.{Superblock}
+use Rattle.dtype.specs.Products.{FitsFile}
+use Rattle.dtype.specs.Types.{size_of}
+use Rattle.dtype.specs.declared.types.ElemType.{ElemType}
+use Rattle.dtype.specs.declared.types.Shape.{Shape}
+use Rattle.header_codec.specs.Fills.{IsOfSize}
+use Rattle.header_codec.specs.Layouts.{IsOfShape}
+use Rattle.header_codec.specs.Written.{SpellsHeader, Part as NewPart}
+use Rattle.header_codec.specs.declared.types.Fill.{Fill}
+use Rattle.header_codec.specs.declared.types.Layout.{Layout}
+use Rattle.header_codec.specs.declared.types.NewHeader.TheVariants as new
+use Rattle.header_codec.specs.declared.types.Prefix.{Prefix}
 use Rattle.object_model.specs.Tree.{Group, Name, names, AreOrdered, IsOrdered, find, walk, edit, insert}
 use Rattle.object_model.specs.Tree.{remove, map_links, ◌>>=◌}
 use Rattle.object_model.specs.Step.{Plain, PlainLinks}
+use Rattle.file_model.specs.Headers.{Met, Part, IsHeader, messages_of, header_blocks}
+use Rattle.file_model.specs.Objects.{DataInfo, IsGroupHeader, IsDataHeader, fill_bytes}
 use Rattle.file_model.specs.Groups.{Ks}
 use Rattle.file_model.specs.Holds.{Full, FullLinks, GroupAt, IsHeld, blocks_of, blocks_in, founds, target_of, plain}
 use Rattle.file_model.specs.Holds.{object_of, ks_of, super_bytes_of, HoldsFull}
@@ -161,3 +174,45 @@ PlainWalk = (p : List Name) (t : Full) → walk (plain t) p ≡ (walk t p >>= λ
 abbrev pub PlainChange : Type 0
 PlainChange = (p : List Name) (f : Full → Full) (h : Plain → Plain) (t : Full)
     → ((u : Full) → walk t p ≡ Ok u → plain (f u) ≡ h (plain u)) → plain (edit p f t) ≡ edit p h (plain t)
+
+-- ---- new headers
+
+-- a message as it was written
+abbrev pub met_of : NewPart → Met
+met_of p = record { kind = p.kind; flags = 0; body = p.body }
+
+-- the prefix of a written header of n bytes, and its one block of messages
+abbrev pub new_prefix : ℕ → List NewPart → Prefix
+new_prefix n ps = record { messages = length ps; links = 1; size = n - 16 }
+
+abbrev pub new_parts : ℕ → ℕ → List NewPart → List Part
+new_parts at n ps = record { block = record { start = at + 16; len = n - 16 }; messages = map met_of ps } ∷ []
+
+-- The n bytes from an address on are a header with just these messages, and its one block.
+pub record IsNewHeader (b : Array) (at n : ℕ) (ps : List NewPart) : Type 0 where
+  pub header : IsHeader b at (new_prefix n ps) (new_parts at n ps)
+  pub messages : messages_of (new_parts at n ps) ≡ map met_of ps
+  pub blocks : header_blocks at (new_prefix n ps) (new_parts at n ps) ≡ record { start = at; len = n } ∷ []
+
+-- what is written as a group's header is the header of a group, with its B-tree and heap
+abbrev pub NewGroup : Type 0
+NewGroup = (b : Array) (at n tree heap : ℕ) (ps : List NewPart) → SpellsHeader (new.Group tree heap) ps (bytes_of b at n)
+    → IsNewHeader b at n ps × IsGroupHeader (map met_of ps) tree heap
+
+-- what the messages of a new dataset tell
+abbrev pub new_info : Shape → ElemType → Fill → Layout → DataInfo
+new_info space elem fill layout = record {
+  shape = space;
+  elem = elem;
+  fill = fill_bytes (size_of elem) fill;
+  layout = layout;
+  filtered = false;
+}
+
+-- what is written as a dataset's header is the header of a dataset, where its parts fit one another
+abbrev pub NewData : Type 0
+NewData = (b : Array) (at n : ℕ) (space : Shape) (elem : ElemType) (fill : Fill) (layout : Layout) (ps : List NewPart)
+    → SpellsHeader (new.Dataset space elem fill layout) ps (bytes_of b at n)
+    → FitsFile space.dims (size_of elem) → IsOfShape (length space.dims) (size_of elem) layout
+    → IsOfSize (size_of elem) fill
+    → IsNewHeader b at n ps × IsDataHeader (map met_of ps) (new_info space elem fill layout)

@@ -3,7 +3,7 @@
 ghost use Rattle.file_model.specs.EditLaws.{HeldOrder, PathBlocks, ApartOrder, KeptOrder, PathApart, KeptTogether};
 ghost use Rattle.file_model.specs.EditLaws.{EditFull, InsertOne, RemoveOne, FoundNames, InsertOrder, RemoveOrder};
 ghost use Rattle.file_model.specs.EditLaws.{EditThere, PlainFind, PlainInsert, PlainRemove, PlainWalk, PlainChange};
-ghost use Rattle.file_model.specs.EditLaws.{FileBlocks, BesideEdit, EndFull, EndWritten};
+ghost use Rattle.file_model.specs.EditLaws.{FileBlocks, BesideEdit, EndFull, EndWritten, NewGroup, NewData};
 
 /// The names of each group of a tree that is held ascend.
 pub fn held_order()
@@ -66,4 +66,10 @@ pub fn plain_links()
     ensures remove { PlainRemove }
     ensures walk { PlainWalk }
     ensures change { PlainChange }
+{}
+
+/// What is written as the header of a new object is the header of that object, its messages those that were written.
+pub fn new_header()
+    ensures group { NewGroup }
+    ensures data { NewData }
 {}
