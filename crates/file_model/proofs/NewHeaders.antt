@@ -24,7 +24,7 @@ use Rattle.header_codec.specs.declared.types.NewHeader.TheVariants as new
 use Rattle.header_codec.specs.declared.types.Prefix.{Prefix}
 use Rattle.file_model.specs.Headers.{Met, Stand, IsWhole, AreWhole, continued}
 use Rattle.file_model.specs.Objects.{IsGroupHeader, IsDataHeader, first_of}
-use Rattle.file_model.specs.EditLaws.{met_of, new_prefix, new_info, IsNewHeader, NewGroup, NewData}
+use Rattle.file_model.specs.EditLaws.{met_of, new_prefix, new_parts, new_info, IsNewHeader, NewGroup, NewData, NewGroupHeld, NewDataHeld}
 use Rattle.file_model.proofs.PartBytes.{split_bytes}
 
 -- ---- messages that stand behind a prefix
@@ -172,3 +172,32 @@ pub new_data : NewData
 new_data b at n space elem fill layout ps h fits shaped sized =
     let told = data_told space elem fill layout ps h.told fits shaped sized in
     (new_header b at n (new.Dataset space elem fill layout) ps h told.0, told.1)
+
+-- ---- held
+
+pub new_group_held : NewGroupHeld
+new_group_held b ks at n tree heap ps fs index h links =
+    let new = new_group b at n tree heap ps h in
+    record {
+      prefix = new_prefix n ps;
+      parts = new_parts at n ps;
+      header = new.0.header;
+      table = subst (λ (ms : List Met). IsGroupHeader ms tree heap) (sym new.0.messages) new.1;
+      index = index;
+      links = links;
+      blocks = ap (λ (bs : List Block). bs ++ index) (sym new.0.blocks);
+    }
+
+pub new_data_held : NewDataHeld
+new_data_held b ks at n i fill ps cs storage h is fits shaped sized stored =
+    let new = new_data b at n i.shape i.elem fill i.layout ps h fits shaped sized in
+    record {
+      prefix = new_prefix n ps;
+      parts = new_parts at n ps;
+      header = new.0.header;
+      told = subst (λ (ms : List Met). IsDataHeader ms i) (sym new.0.messages) (subst (IsDataHeader (map met_of ps)) (sym is) new.1);
+      storage = storage;
+      stored = stored;
+      elements = refl;
+      blocks = ap (λ (bs : List Block). bs ++ storage) (sym new.0.blocks);
+    }

@@ -1,6 +1,7 @@
 -- Laws of edits: what order names have, which blocks an edited tree has, and that the edited file is held. Each is the
 -- clause of a small public function of this crate.
-use Rattle.std.specs.Prelude.{◌≡◌, ◌↔◌, ℕ, ◌+◌, ◌-◌, ◌^◌, ◌<◌, ◌≤◌, false, List, [], ◌∷◌, ◌++◌, length, map, None, Some, Ok}
+use Rattle.std.specs.Prelude.{◌≡◌, ◌↔◌, ℕ, ◌+◌, ◌-◌, ◌^◌, ◌<◌, ◌≤◌, false, List, [], ◌∷◌, ◌++◌, length, map}
+use Rattle.std.specs.Prelude.{None, Some, Ok}
 use Rattle.std.specs.List.Sorted.{IsPermutation}
 use Rattle.std.specs.Option.{option_map}
 use Rattle.std.specs.Int.{w64, to_le_bytes}
@@ -25,9 +26,10 @@ use Rattle.object_model.specs.Tree.{remove, map_links, ◌>>=◌}
 use Rattle.object_model.specs.Step.{Plain, PlainLinks}
 use Rattle.file_model.specs.Headers.{Met, Part, IsHeader, messages_of, header_blocks}
 use Rattle.file_model.specs.Objects.{DataInfo, IsGroupHeader, IsDataHeader, fill_bytes}
-use Rattle.file_model.specs.Groups.{Ks}
+use Rattle.file_model.specs.Groups.{Ks, Found, HasLinks}
 use Rattle.file_model.specs.Holds.{Full, FullLinks, GroupAt, IsHeld, blocks_of, blocks_in, founds, target_of, plain}
-use Rattle.file_model.specs.Holds.{object_of, ks_of, super_bytes_of, HoldsFull}
+use Rattle.file_model.specs.Holds.{object_of, ks_of, super_bytes_of, HoldsFull, DataAt, IsGroup, IsData}
+use Rattle.file_model.specs.Chunks.{Chunk, IsStoredBy, elements_of}
 use Rattle.file_model.specs.Laws.{beside, Rises, all_blocks}
 
 -- the names of each group of a tree that is held ascend
@@ -196,7 +198,8 @@ pub record IsNewHeader (b : Array) (at n : ℕ) (ps : List NewPart) : Type 0 whe
 
 -- what is written as a group's header is the header of a group, with its B-tree and heap
 abbrev pub NewGroup : Type 0
-NewGroup = (b : Array) (at n tree heap : ℕ) (ps : List NewPart) → SpellsHeader (new.Group tree heap) ps (bytes_of b at n)
+NewGroup = (b : Array) (at n tree heap : ℕ) (ps : List NewPart)
+    → SpellsHeader (new.Group tree heap) ps (bytes_of b at n)
     → IsNewHeader b at n ps × IsGroupHeader (map met_of ps) tree heap
 
 -- what the messages of a new dataset tell
@@ -216,3 +219,38 @@ NewData = (b : Array) (at n : ℕ) (space : Shape) (elem : ElemType) (fill : Fil
     → FitsFile space.dims (size_of elem) → IsOfShape (length space.dims) (size_of elem) layout
     → IsOfSize (size_of elem) fill
     → IsNewHeader b at n ps × IsDataHeader (map met_of ps) (new_info space elem fill layout)
+
+-- A new group in the file: the block of its header, and those of its index.
+abbrev pub group_at : (at n tree heap : ℕ) → List Block → GroupAt
+group_at at n tree heap index = record {
+  header_at = at;
+  tree_at = tree;
+  heap_at = heap;
+  own = record { start = at; len = n } ∷ index;
+}
+
+-- a group is held where its header was written and its index has links
+abbrev pub NewGroupHeld : Type 0
+NewGroupHeld = (b : Array) (ks : Ks) (at n tree heap : ℕ) (ps : List NewPart) (fs : List Found) (index : List Block)
+    → SpellsHeader (new.Group tree heap) ps (bytes_of b at n) → HasLinks b ks tree heap fs index
+    → IsGroup b ks (group_at at n tree heap index) fs
+
+-- A new dataset in the file: the block of its header, and those of what is stored.
+abbrev pub data_at : Array → (at n : ℕ) → DataInfo → List Chunk → List Block → DataAt
+data_at b at n i cs storage = record {
+  header_at = at;
+  info = i;
+  chunks = cs;
+  elements = elements_of b i cs;
+  own = record { start = at; len = n } ∷ storage;
+}
+
+-- a dataset is held where its header was written and its elements are stored
+abbrev pub NewDataHeld : Type 0
+NewDataHeld = (b : Array) (ks : Ks) (at n : ℕ) (i : DataInfo) (fill : Fill) (ps : List NewPart) (cs : List Chunk)
+    (storage : List Block)
+    → SpellsHeader (new.Dataset i.shape i.elem fill i.layout) ps (bytes_of b at n)
+    → i ≡ new_info i.shape i.elem fill i.layout
+    → FitsFile i.shape.dims (size_of i.elem) → IsOfShape (length i.shape.dims) (size_of i.elem) i.layout
+    → IsOfSize (size_of i.elem) fill → IsStoredBy b ks.chunk i i.layout cs storage
+    → IsData b ks (data_at b at n i cs storage)

@@ -3,7 +3,7 @@
 ghost use Rattle.file_model.specs.EditLaws.{HeldOrder, PathBlocks, ApartOrder, KeptOrder, PathApart, KeptTogether};
 ghost use Rattle.file_model.specs.EditLaws.{EditFull, InsertOne, RemoveOne, FoundNames, InsertOrder, RemoveOrder};
 ghost use Rattle.file_model.specs.EditLaws.{EditThere, PlainFind, PlainInsert, PlainRemove, PlainWalk, PlainChange};
-ghost use Rattle.file_model.specs.EditLaws.{FileBlocks, BesideEdit, EndFull, EndWritten, NewGroup, NewData};
+ghost use Rattle.file_model.specs.EditLaws.{FileBlocks, BesideEdit, EndFull, EndWritten, NewGroup, NewData, NewGroupHeld, NewDataHeld};
 
 /// The names of each group of a tree that is held ascend.
 pub fn held_order()
@@ -68,8 +68,11 @@ pub fn plain_links()
     ensures change { PlainChange }
 {}
 
-/// What is written as the header of a new object is the header of that object, its messages those that were written.
+/// What is written as the header of a new object is the header of that object, its messages those that were written. The
+/// object is held where its links or elements are.
 pub fn new_header()
     ensures group { NewGroup }
     ensures data { NewData }
+    ensures group_held { NewGroupHeld }
+    ensures data_held { NewDataHeld }
 {}
