@@ -24,3 +24,4 @@ pub mod EditFull
 pub mod EndWritten
 pub mod PartBytes
 pub mod NewHeaders
+pub mod OtherBody

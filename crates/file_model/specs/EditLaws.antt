@@ -1,7 +1,7 @@
 -- Laws of edits: what order names have, which blocks an edited tree has, and that the edited file is held. Each is the
 -- clause of a small public function of this crate.
 use Rattle.std.specs.Prelude.{◌≡◌, ◌↔◌, ℕ, ◌+◌, ◌-◌, ◌^◌, ◌<◌, ◌≤◌, false, List, [], ◌∷◌, ◌++◌, length, map}
-use Rattle.std.specs.Prelude.{None, Some, Ok}
+use Rattle.std.specs.Prelude.{None, Some, Ok, ◌≢◌, ◌⊎◌}
 use Rattle.std.specs.List.Sorted.{IsPermutation}
 use Rattle.std.specs.Option.{option_map}
 use Rattle.std.specs.Int.{w64, to_le_bytes}
@@ -24,7 +24,7 @@ use Rattle.header_codec.specs.declared.types.Prefix.{Prefix}
 use Rattle.object_model.specs.Tree.{Group, Name, names, AreOrdered, IsOrdered, find, walk, edit, insert}
 use Rattle.object_model.specs.Tree.{remove, map_links, ◌>>=◌}
 use Rattle.object_model.specs.Step.{Plain, PlainLinks}
-use Rattle.file_model.specs.Headers.{Met, Part, IsHeader, messages_of, header_blocks}
+use Rattle.file_model.specs.Headers.{Met, Part, after, IsHeader, messages_of, header_blocks}
 use Rattle.file_model.specs.Objects.{DataInfo, IsGroupHeader, IsDataHeader, fill_bytes}
 use Rattle.file_model.specs.Groups.{Ks, Found, HasLinks}
 use Rattle.file_model.specs.Holds.{Full, FullLinks, GroupAt, IsHeld, blocks_of, blocks_in, founds, target_of, plain}
@@ -254,3 +254,40 @@ NewDataHeld = (b : Array) (ks : Ks) (at n : ℕ) (i : DataInfo) (fill : Fill) (p
     → FitsFile i.shape.dims (size_of i.elem) → IsOfShape (length i.shape.dims) (size_of i.elem) i.layout
     → IsOfSize (size_of i.elem) fill → IsStoredBy b ks.chunk i i.layout cs storage
     → IsData b ks (data_at b at n i cs storage)
+
+-- ---- another body of a message
+
+-- The parts of a header with another body of one message, whose data stand from a place on.
+pub record IsOtherBody (parts changed : List Part) (place : ℕ) (m : Met) (body : List ℕ) : Type 0 where
+  pub before : List Part
+  pub later : List Part
+  pub block : Block
+  pub ahead : List Met
+  pub behind : List Met
+  pub old : parts ≡ before ++ record { block = block; messages = ahead ++ m ∷ behind } ∷ later
+  pub new : changed ≡ before ++ record { block = block; messages = ahead ++ record m { body = body } ∷ behind } ∷ later
+  pub stands : place ≡ block.start + after 0 ahead + 8
+
+-- the same messages, in the order met, with that body in its place
+pub record AreButOne (m : Met) (body : List ℕ) (old new : List Met) : Type 0 where
+  pub ahead : List Met
+  pub behind : List Met
+  pub were : old ≡ ahead ++ m ∷ behind
+  pub are : new ≡ ahead ++ record m { body = body } ∷ behind
+
+-- the two arrays have the same bytes in the blocks, but for n from an address on
+abbrev pub AgreeBeside : Array → Array → (at n : ℕ) → List Block → Type 0
+AgreeBeside b c at n [] = Unit {0}
+AgreeBeside b c at n (x ∷ xs) =
+    ((i : ℕ) → x.start ≤ i → i < x.start + x.len → (i < at) ⊎ (at + n ≤ i) → b i ≡ c i) × AgreeBeside b c at n xs
+
+-- Where other bytes of the same length stand in the data of one message, which is no continuation, the header has the
+-- same messages with these data in their place, and the same blocks.
+abbrev pub OtherBody : Type 0
+OtherBody = (b c : Array) (at : ℕ) (prefix : Prefix) (parts changed : List Part) (place : ℕ) (m : Met) (body : List ℕ)
+    → IsHeader b at prefix parts → IsOtherBody parts changed place m body → m.kind ≢ 0x10
+    → length body ≡ length m.body → AllApart (header_blocks at prefix parts)
+    → AgreeBeside b c place (length body) (header_blocks at prefix parts)
+    → bytes_of c place (length body) ≡ body
+    → IsHeader c at prefix changed × AreButOne m body (messages_of parts) (messages_of changed)
+    × (header_blocks at prefix changed ≡ header_blocks at prefix parts)

@@ -1,9 +1,10 @@
 //! Laws of edits. Each function does nothing: its clause is the law.
 
-ghost use Rattle.file_model.specs.EditLaws.{HeldOrder, PathBlocks, ApartOrder, KeptOrder, PathApart, KeptTogether};
-ghost use Rattle.file_model.specs.EditLaws.{EditFull, InsertOne, RemoveOne, FoundNames, InsertOrder, RemoveOrder};
-ghost use Rattle.file_model.specs.EditLaws.{EditThere, PlainFind, PlainInsert, PlainRemove, PlainWalk, PlainChange};
-ghost use Rattle.file_model.specs.EditLaws.{FileBlocks, BesideEdit, EndFull, EndWritten, NewGroup, NewData, NewGroupHeld, NewDataHeld};
+ghost use Rattle.file_model.specs.EditLaws.{HeldOrder, PathBlocks, FileBlocks, BesideEdit, PathApart, ApartOrder};
+ghost use Rattle.file_model.specs.EditLaws.{KeptOrder, KeptTogether, EditFull, EndFull, EndWritten, InsertOne};
+ghost use Rattle.file_model.specs.EditLaws.{InsertOrder, RemoveOne, RemoveOrder, FoundNames, EditThere, PlainFind};
+ghost use Rattle.file_model.specs.EditLaws.{PlainInsert, PlainRemove, PlainWalk, PlainChange, NewGroup, NewData};
+ghost use Rattle.file_model.specs.EditLaws.{NewGroupHeld, NewDataHeld, OtherBody};
 
 /// The names of each group of a tree that is held ascend.
 pub fn held_order()
@@ -68,11 +69,16 @@ pub fn plain_links()
     ensures change { PlainChange }
 {}
 
-/// What is written as the header of a new object is the header of that object, its messages those that were written. The
-/// object is held where its links or elements are.
+/// What is written as the header of a new object is the header of that object, its messages those that were written.
+/// The object is held where its links or elements are.
 pub fn new_header()
     ensures group { NewGroup }
     ensures data { NewData }
     ensures group_held { NewGroupHeld }
     ensures data_held { NewDataHeld }
+{}
+
+/// Other data of the same length in one message of a header: the header has the same messages with these data.
+pub fn other_body()
+    ensures { OtherBody }
 {}
