@@ -1,5 +1,5 @@
 -- Blocks that are kept are so in any order.
-use Rattle.std.proofs.Common.{◌≡◌, ◌+◌, ◌<◌, Bool, true, false, nat_lt, List, [], ◌∷◌, ◌++◌, refl, inl, inr, arith}
+use Rattle.std.proofs.Common.{◌≡◌, ◌+◌, ◌<◌, Bool, true, false, nat_lt, List, [], ◌∷◌, ◌++◌, refl, sym, ◌∙◌, inl, inr, arith}
 use Rattle.std.specs.Prelude.{◌&&◌}
 use Rattle.std.specs.List.{AllByRecursion, IsDistinct}
 use Rattle.std.specs.List.Sorted.{IsPermutation}
@@ -8,8 +8,10 @@ use Rattle.std.proofs.lemmas.Bool.Decides.{nat_tests}
 use Rattle.std.proofs.lemmas.List.Elements.{All-from_recursion, recursion_from_All}
 use Rattle.std.proofs.lemmas.List.Sorted.{All-permutation}
 use Rattle.std.proofs.lemmas.Map.Keys.{IsDistinct-IsPermutation}
-use Rattle.outside.specs.Blocks.{Block, Bounds, AreApart, IsApart, AllApart, IsInside, AllInside, AllSome, AreKept}
-use Rattle.file_model.specs.EditLaws.{ApartOrder, KeptOrder, KeptTogether, AreApartFrom}
+use Rattle.outside.specs.Blocks.{Block, Bounds, AreApart, IsApart, AllApart, IsInside, AllInside, AllSome, AreKept, Agree}
+use Rattle.outside.specs.Array.{Array}
+use Rattle.file_model.specs.EditLaws.{ApartOrder, KeptOrder, KeptTogether, AreApartFrom, ApartFromOrder, ApartFromParts, AgreeOrder, AgreeThrough, AgreeApart}
+use Rattle.file_model.proofs.FrameBytes.{Same}
 
 -- ---- apart
 
@@ -130,3 +132,52 @@ kept_both e (x ∷ xs) ys h k apart =
 
 pub kept_together : KeptTogether
 kept_together e xs ys = (parts_of e xs ys, λ h. kept_both e xs ys h.0 h.1 h.2)
+
+-- ---- apart from a list
+
+from_each : (xs zs : List Block) → AreApartFrom xs zs → AllByRecursion (λ x. IsApart x zs) xs
+from_each [] zs h = tt
+from_each (x ∷ xs) zs h = (h.0, from_each xs zs h.1)
+
+each_from : (xs zs : List Block) → AllByRecursion (λ x. IsApart x zs) xs → AreApartFrom xs zs
+each_from [] zs h = tt
+each_from (x ∷ xs) zs h = (h.0, each_from xs zs h.1)
+
+pub apart_from_order : ApartFromOrder
+apart_from_order xs ys zs moved h = each_from ys zs (each_order (λ x. IsApart x zs) xs ys moved (from_each xs zs h))
+
+pub apart_from_parts : ApartFromParts
+apart_from_parts xs ys zs = (parts xs, both xs)
+  where
+    parts : (xs : List Block) → AreApartFrom (xs ++ ys) zs → AreApartFrom xs zs × AreApartFrom ys zs
+    parts [] h = (tt, h)
+    parts (x ∷ xs) h = let rest = parts xs h.1 in ((h.0, rest.0), rest.1)
+
+    both : (xs : List Block) → AreApartFrom xs zs × AreApartFrom ys zs → AreApartFrom (xs ++ ys) zs
+    both [] h = h.1
+    both (x ∷ xs) h = (h.0.0, both xs (h.0.1, h.1))
+
+-- ---- bytes that stay
+
+agree_each : (b c : Array) (xs : List Block) → Agree b c xs → AllByRecursion (λ x. Same b c x.start x.len) xs
+agree_each b c [] h = tt
+agree_each b c (x ∷ xs) h = (h.0, agree_each b c xs h.1)
+
+each_agree : (b c : Array) (xs : List Block) → AllByRecursion (λ x. Same b c x.start x.len) xs → Agree b c xs
+each_agree b c [] h = tt
+each_agree b c (x ∷ xs) h = (h.0, each_agree b c xs h.1)
+
+pub agree_order : AgreeOrder
+agree_order b c xs ys moved h = each_agree b c ys (each_order (λ x. Same b c x.start x.len) xs ys moved (agree_each b c xs h))
+
+pub agree_through : AgreeThrough
+agree_through b c d [] h k = tt
+agree_through b c d (x ∷ xs) h k = (λ i low high. h.0 i low high ∙ k.0 i low high, agree_through b c d xs h.1 k.1)
+
+pub agree_apart : AgreeApart
+agree_apart b c x [] same h = tt
+agree_apart b c x (y ∷ ys) same h = (one h.0, agree_apart b c x ys same h.1)
+  where
+    one : AreApart x y → Same b c y.start y.len
+    one (inl before) = λ i low high. sym (same i (inr (omega arith)))
+    one (inr behind) = λ i low high. sym (same i (inl (omega arith)))

@@ -25,3 +25,4 @@ pub mod EndWritten
 pub mod PartBytes
 pub mod NewHeaders
 pub mod OtherBody
+pub mod OtherObject

@@ -5,17 +5,19 @@ use Rattle.std.specs.Prelude.{None, Some, Ok, ◌≢◌, ◌⊎◌}
 use Rattle.std.specs.List.Sorted.{IsPermutation}
 use Rattle.std.specs.Option.{option_map}
 use Rattle.std.specs.Int.{w64, to_le_bytes}
-use Rattle.outside.specs.Array.{Array, bytes_of}
+use Rattle.outside.specs.Array.{Array, bytes_of, SameOutside}
+use Rattle.h5_base.specs.Fields.{u64_at}
 use Rattle.h5_base.specs.declared.extent.MemClass.TheVariants.{Super}
 use Rattle.outside.specs.Blocks.{Block, Bounds, IsApart, AllApart, AreKept, Agree}
 use Rattle.super_codec.specs.Super.{Spells, base_at, super_len}
 use Rattle.super_codec.specs.declared.superblock.Superblock.{Superblock}
 use Rattle.dtype.specs.Products.{FitsFile}
+use Rattle.dtype.specs.Shapes.{SpellsShape}
 use Rattle.dtype.specs.Types.{size_of}
 use Rattle.dtype.specs.declared.types.ElemType.{ElemType}
 use Rattle.dtype.specs.declared.types.Shape.{Shape}
 use Rattle.header_codec.specs.Fills.{IsOfSize}
-use Rattle.header_codec.specs.Layouts.{IsOfShape}
+use Rattle.header_codec.specs.Layouts.{SpellsLayout, IsOfShape}
 use Rattle.header_codec.specs.Written.{SpellsHeader, Part as NewPart}
 use Rattle.header_codec.specs.declared.types.Fill.{Fill}
 use Rattle.header_codec.specs.declared.types.Layout.{Layout}
@@ -25,7 +27,7 @@ use Rattle.object_model.specs.Tree.{Group, Name, names, AreOrdered, IsOrdered, f
 use Rattle.object_model.specs.Tree.{remove, map_links, ◌>>=◌}
 use Rattle.object_model.specs.Step.{Plain, PlainLinks}
 use Rattle.file_model.specs.Headers.{Met, Part, after, IsHeader, messages_of, header_blocks}
-use Rattle.file_model.specs.Objects.{DataInfo, IsGroupHeader, IsDataHeader, fill_bytes}
+use Rattle.file_model.specs.Objects.{DataInfo, IsGroupHeader, IsDataHeader, fill_bytes, first_of, has}
 use Rattle.file_model.specs.Groups.{Ks, Found, HasLinks}
 use Rattle.file_model.specs.Holds.{Full, FullLinks, GroupAt, IsHeld, blocks_of, blocks_in, founds, target_of, plain}
 use Rattle.file_model.specs.Holds.{object_of, ks_of, super_bytes_of, HoldsFull, DataAt, IsGroup, IsData}
@@ -68,6 +70,27 @@ AreApartFrom (x ∷ xs) ys = IsApart x ys × AreApartFrom xs ys
 abbrev pub KeptTogether : Type 0
 KeptTogether = (e : Bounds) (xs ys : List Block)
     → AreKept e (xs ++ ys) ↔ (AreKept e xs × AreKept e ys × AreApartFrom ys xs)
+
+-- apart in any order, and in parts
+abbrev pub ApartFromOrder : Type 0
+ApartFromOrder = (xs ys zs : List Block) → IsPermutation xs ys → AreApartFrom xs zs → AreApartFrom ys zs
+
+abbrev pub ApartFromParts : Type 0
+ApartFromParts = (xs ys zs : List Block) → AreApartFrom (xs ++ ys) zs ↔ (AreApartFrom xs zs × AreApartFrom ys zs)
+
+-- ---- bytes that stay
+
+-- the order of blocks doesn't matter
+abbrev pub AgreeOrder : Type 0
+AgreeOrder = (b c : Array) (xs ys : List Block) → IsPermutation xs ys → Agree b c xs → Agree b c ys
+
+-- what stays through one change and the next stays through both
+abbrev pub AgreeThrough : Type 0
+AgreeThrough = (b c d : Array) (xs : List Block) → Agree b c xs → Agree c d xs → Agree b d xs
+
+-- a write to a block keeps the bytes of all that are apart from it
+abbrev pub AgreeApart : Type 0
+AgreeApart = (b c : Array) (x : Block) (ys : List Block) → SameOutside x.start x.len b c → IsApart x ys → Agree b c ys
 
 -- ---- the file
 
@@ -291,3 +314,28 @@ OtherBody = (b c : Array) (at : ℕ) (prefix : Prefix) (parts changed : List Par
     → bytes_of c place (length body) ≡ body
     → IsHeader c at prefix changed × AreButOne m body (messages_of parts) (messages_of changed)
     × (header_blocks at prefix changed ≡ header_blocks at prefix parts)
+
+-- the first messages of each type are as they were, but for this one
+abbrev pub OtherFirst : Type 0
+OtherFirst = (m : Met) (body : List ℕ) (old new : List Met) (o : AreButOne m body old new) → has m.kind o.ahead ≡ false
+    → (first_of m.kind new ≡ Some (record m { body = body }))
+    × ((k : ℕ) → k ≢ m.kind → first_of k new ≡ first_of k old)
+
+-- other data of a symbol table message: a group with another B-tree and heap
+abbrev pub OtherTable : Type 0
+OtherTable = (m : Met) (body : List ℕ) (old new : List Met) (o : AreButOne m body old new) → has m.kind o.ahead ≡ false
+    → m.kind ≡ 0x11 → IsGroupHeader new (u64_at body 0) (u64_at body 8)
+
+-- other data of a dataspace message: a dataset with another shape
+abbrev pub OtherShape : Type 0
+OtherShape = (m : Met) (body : List ℕ) (old new : List Met) (o : AreButOne m body old new) → has m.kind o.ahead ≡ false
+    → m.kind ≡ 1 → (i : DataInfo) (shape : Shape) → IsDataHeader old i → SpellsShape shape body
+    → FitsFile shape.dims (size_of i.elem) → length shape.dims ≡ length i.shape.dims
+    → IsDataHeader new (record i { shape = shape })
+
+-- other data of a layout message: a dataset with another layout
+abbrev pub OtherLayout : Type 0
+OtherLayout = (m : Met) (body : List ℕ) (old new : List Met) (o : AreButOne m body old new) → has m.kind o.ahead ≡ false
+    → m.kind ≡ 8 → (i : DataInfo) (layout : Layout) → IsDataHeader old i → SpellsLayout layout body
+    → IsOfShape (length i.shape.dims) (size_of i.elem) layout
+    → IsDataHeader new (record i { layout = layout })

@@ -1,10 +1,12 @@
 //! Laws of edits. Each function does nothing: its clause is the law.
 
 ghost use Rattle.file_model.specs.EditLaws.{HeldOrder, PathBlocks, FileBlocks, BesideEdit, PathApart, ApartOrder};
-ghost use Rattle.file_model.specs.EditLaws.{KeptOrder, KeptTogether, EditFull, EndFull, EndWritten, InsertOne};
+ghost use Rattle.file_model.specs.EditLaws.{KeptOrder, KeptTogether, ApartFromOrder, ApartFromParts, AgreeOrder};
+ghost use Rattle.file_model.specs.EditLaws.{AgreeThrough, AgreeApart, EditFull, EndFull, EndWritten, InsertOne};
 ghost use Rattle.file_model.specs.EditLaws.{InsertOrder, RemoveOne, RemoveOrder, FoundNames, EditThere, PlainFind};
 ghost use Rattle.file_model.specs.EditLaws.{PlainInsert, PlainRemove, PlainWalk, PlainChange, NewGroup, NewData};
-ghost use Rattle.file_model.specs.EditLaws.{NewGroupHeld, NewDataHeld, OtherBody};
+ghost use Rattle.file_model.specs.EditLaws.{NewGroupHeld, NewDataHeld, OtherBody, OtherFirst, OtherTable, OtherShape};
+ghost use Rattle.file_model.specs.EditLaws.{OtherLayout};
 
 /// The names of each group of a tree that is held ascend.
 pub fn held_order()
@@ -25,6 +27,15 @@ pub fn block_order()
     ensures apart { ApartOrder }
     ensures kept { KeptOrder }
     ensures together { KeptTogether }
+    ensures apart_from { ApartFromOrder }
+    ensures parts { ApartFromParts }
+{}
+
+/// Bytes that stay: in any order of blocks, through one change and the next, and in blocks apart from that of a write.
+pub fn bytes_stay()
+    ensures order { AgreeOrder }
+    ensures through { AgreeThrough }
+    ensures apart { AgreeApart }
 {}
 
 /// The whole file with the edited tree is held.
@@ -81,4 +92,12 @@ pub fn new_header()
 /// Other data of the same length in one message of a header: the header has the same messages with these data.
 pub fn other_body()
     ensures { OtherBody }
+{}
+
+/// What the object of such a header is: a group with another B-tree and heap, a dataset with another shape or layout.
+pub fn other_object()
+    ensures first { OtherFirst }
+    ensures table { OtherTable }
+    ensures shape { OtherShape }
+    ensures layout { OtherLayout }
 {}
