@@ -1,5 +1,5 @@
 -- The file with an edited tree is held.
-use Rattle.std.proofs.Common.{◌≡◌, Bool, true, false, cond, List, [], ◌∷◌, ◌++◌, Ok, refl, sym, ◌∙◌, ap, subst}
+use Rattle.std.proofs.Common.{◌≡◌, Bool, true, false, cond, List, [], ◌∷◌, ◌++◌, Ok, refl, sym, ◌∙◌, ap, subst, inl, inr, Option, None, Some, ℕ}
 use Rattle.std.specs.List.Sorted.{IsPermutation}
 use Rattle.std.proofs.lemmas.List.Sorted.{IsPermutation-sym, IsPermutation-cons}
 use Rattle.outside.specs.Blocks.{Block, Bounds, AreKept}
@@ -8,12 +8,13 @@ use Rattle.super_codec.specs.Super.{super_len}
 use Rattle.super_codec.specs.declared.superblock.Superblock.{Superblock}
 use Rattle.object_model.specs.Tree.{Group, Leaf, Empty, Link, Name, same_name, walk, edit, replace}
 use Rattle.object_model.proofs.TreeLemmas.{walk-edit}
-use Rattle.file_model.specs.Holds.{Full, FullLinks, GroupAt, IsHeld, blocks_of, blocks_in, target_of, ks_of, HasDriver}
+use Rattle.file_model.specs.Holds.{Full, FullLinks, GroupAt, IsHeld, blocks_of, blocks_in, target_of, ks_of, HasDriver, plain}
+use Rattle.outside.specs.Array.{Array}
 use Rattle.file_model.specs.Laws.{beside, beside_in, Rises, all_blocks}
-use Rattle.file_model.specs.EditLaws.{BesideEdit, FileBlocks, EditFull, EndFull, AreApartFrom, file_beside}
+use Rattle.file_model.specs.EditLaws.{BesideEdit, FileBlocks, EditFull, EditHolds, DriverStays, EndFull, AreApartFrom, file_beside}
 use Rattle.file_model.proofs.FrameBytes.{agree_left, agree_right}
 use Rattle.file_model.proofs.FrameLemmas.{frame, kept_stays, super_stays, driver_stays}
-use Rattle.file_model.proofs.EditLemmas.{edit_held}
+use Rattle.file_model.proofs.EditLemmas.{edit_held, plain_edit}
 use Rattle.file_model.proofs.BlockOrder.{kept_order, kept_both, kept_together}
 use Rattle.file_model.proofs.PathBlocks.{path_blocks, behind}
 
@@ -74,6 +75,28 @@ edit_full b c e f s g g' ls ls' p u v h on same new r agree kept apart is =
       held = subst (λ (x : Full). IsHeld c (ks_of s) x) is held;
       kept = subst (λ (x : Full). AreKept f (all_blocks s h.driver x)) is (edit_kept e f s h.driver p t u v on r h.kept kept apart);
     }
+
+pub edit_holds : EditHolds
+edit_holds b c e f s g g' ls ls' p u v h on same new r agree kept apart is = record {
+  super = s;
+  root = g';
+  links = ls';
+  full = edit_full b c e f s g g' ls ls' p u v h on same new r agree kept apart is;
+  tree = sym (plain_edit p (Group g ls) v) ∙ ap plain is;
+}
+
+one_driver : (b : Array) (own : Option (List ℕ)) (at : ℕ) (xs ys : List Block) → HasDriver b own at xs → HasDriver b own at ys → xs ≡ ys
+one_driver b None at xs ys h k = h ∙ sym k
+one_driver b (Some ident) at xs ys (inl h) (inl k) = h.1 ∙ sym k.1
+one_driver b (Some ident) at xs ys (inl h) (inr k) = absurd (k.0 h.0)
+one_driver b (Some ident) at xs ys (inr h) (inl k) = absurd (h.0 k.0)
+one_driver b (Some ident) at xs ys (inr h) (inr k) = h.2 ∙ sym k.2
+
+pub driver_same : DriverStays
+driver_same b c e f s r g g' ls ls' h h' rises place agree =
+    let old = driver_stays b c e.own s.driver_at h.driver agree h.driver_is in
+    let new = subst (λ n. HasDriver c e.own n h'.driver) place (subst (λ o. HasDriver c o r.driver_at h'.driver) rises.own h'.driver_is) in
+    one_driver c e.own s.driver_at h'.driver h.driver new old
 
 pub end_full : EndFull
 end_full b c e f s n g ls h r super agree =

@@ -30,7 +30,7 @@ use Rattle.file_model.specs.Headers.{Met, Part, after, IsHeader, messages_of, he
 use Rattle.file_model.specs.Objects.{DataInfo, IsGroupHeader, IsDataHeader, fill_bytes, first_of, has}
 use Rattle.file_model.specs.Groups.{Ks, Found, HasLinks}
 use Rattle.file_model.specs.Holds.{Full, FullLinks, GroupAt, IsHeld, blocks_of, blocks_in, founds, target_of, plain}
-use Rattle.file_model.specs.Holds.{object_of, ks_of, super_bytes_of, HoldsFull, DataAt, IsGroup, IsData}
+use Rattle.file_model.specs.Holds.{object_of, ks_of, super_bytes_of, HoldsFull, Holds, DataAt, IsGroup, IsData}
 use Rattle.file_model.specs.Chunks.{Chunk, IsStoredBy, elements_of}
 use Rattle.file_model.specs.Laws.{beside, Rises, all_blocks}
 
@@ -113,6 +113,22 @@ EditFull = (b c : Array) (e f : Bounds) (s : Superblock) (g g' : GroupAt) (ls ls
     → AreKept f (blocks_of v) → AreApartFrom (blocks_of v) (file_beside s h.driver p (Group g ls))
     → edit p (λ _. v) (Group g ls) ≡ Group g' ls'
     → HoldsFull c f s g' ls'
+
+-- and the bytes hold the edited tree
+abbrev pub EditHolds : Type 0
+EditHolds = (b c : Array) (e f : Bounds) (s : Superblock) (g g' : GroupAt) (ls ls' : FullLinks) (p : List Name)
+    (u v : Full) (h : HoldsFull b e s g ls)
+    → walk (Group g ls) p ≡ Ok u → target_of v ≡ target_of u → IsHeld c (ks_of s) v
+    → Rises e f → Agree b c (file_beside s h.driver p (Group g ls))
+    → AreKept f (blocks_of v) → AreApartFrom (blocks_of v) (file_beside s h.driver p (Group g ls))
+    → edit p (λ _. v) (Group g ls) ≡ Group g' ls'
+    → Holds c f (edit p (λ _. plain v) (plain (Group g ls)))
+
+-- the driver information block is the same from one file to the next, where its bytes and its place stay
+abbrev pub DriverStays : Type 0
+DriverStays = (b c : Array) (e f : Bounds) (s r : Superblock) (g g' : GroupAt) (ls ls' : FullLinks)
+    (h : HoldsFull b e s g ls) (h' : HoldsFull c f r g' ls')
+    → Rises e f → r.driver_at ≡ s.driver_at → Agree b c h.driver → h'.driver ≡ h.driver
 
 -- Another end of the file in the superblock, and all other blocks as they were: the same tree is held.
 abbrev pub EndFull : Type 0

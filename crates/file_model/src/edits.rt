@@ -2,11 +2,11 @@
 
 ghost use Rattle.file_model.specs.EditLaws.{HeldOrder, PathBlocks, FileBlocks, BesideEdit, PathApart, ApartOrder};
 ghost use Rattle.file_model.specs.EditLaws.{KeptOrder, KeptTogether, ApartFromOrder, ApartFromParts, AgreeOrder};
-ghost use Rattle.file_model.specs.EditLaws.{AgreeThrough, AgreeApart, EditFull, EndFull, EndWritten, InsertOne};
-ghost use Rattle.file_model.specs.EditLaws.{InsertOrder, RemoveOne, RemoveOrder, FoundNames, EditThere, PlainFind};
-ghost use Rattle.file_model.specs.EditLaws.{PlainInsert, PlainRemove, PlainWalk, PlainChange, NewGroup, NewData};
-ghost use Rattle.file_model.specs.EditLaws.{NewGroupHeld, NewDataHeld, OtherBody, OtherFirst, OtherTable, OtherShape};
-ghost use Rattle.file_model.specs.EditLaws.{OtherLayout};
+ghost use Rattle.file_model.specs.EditLaws.{AgreeThrough, AgreeApart, EditFull, EditHolds, DriverStays, EndFull};
+ghost use Rattle.file_model.specs.EditLaws.{EndWritten, InsertOne, InsertOrder, RemoveOne, RemoveOrder, FoundNames};
+ghost use Rattle.file_model.specs.EditLaws.{EditThere, PlainFind, PlainInsert, PlainRemove, PlainWalk, PlainChange};
+ghost use Rattle.file_model.specs.EditLaws.{NewGroup, NewData, NewGroupHeld, NewDataHeld, OtherBody, OtherFirst};
+ghost use Rattle.file_model.specs.EditLaws.{OtherTable, OtherShape, OtherLayout};
 
 /// The names of each group of a tree that is held ascend.
 pub fn held_order()
@@ -38,9 +38,11 @@ pub fn bytes_stay()
     ensures apart { AgreeApart }
 {}
 
-/// The whole file with the edited tree is held.
+/// The whole file with the edited tree is held, and the block of driver information is where it was.
 pub fn edit_full()
-    ensures { EditFull }
+    ensures full { EditFull }
+    ensures holds { EditHolds }
+    ensures driver { DriverStays }
 {}
 
 /// The file with another end told in its superblock is held. The end is written as 8 bytes.
