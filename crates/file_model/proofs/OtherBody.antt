@@ -13,7 +13,7 @@ use Rattle.h5_base.specs.Fields.{bytes_at, u16_at}
 use Rattle.header_codec.specs.Headers.{SpellsPrefix, SpellsMessage}
 use Rattle.header_codec.specs.declared.types.Prefix.{Prefix}
 use Rattle.file_model.specs.Headers.{Met, Stand, after, AreWhole, continued, Part, IsRead, AreMet, IsHeader, messages_of, first_block, header_blocks}
-use Rattle.file_model.specs.EditLaws.{IsOtherBody, AreButOne, AgreeBeside, OtherBody}
+use Rattle.file_model.specs.EditLaws.{IsOtherBody, AreButOne, AgreeBeside, OtherBody, BesideWrite}
 use Rattle.file_model.proofs.FrameBytes.{Same, bytes_same, within_same, agree_left}
 use Rattle.file_model.proofs.PartBytes.{part_bytes}
 
@@ -314,3 +314,7 @@ other_body b c at prefix parts changed place m body h o plain long apart agree t
     (subst (λ ps. AgreeBeside b c place' (length body) (header_blocks at prefix ps)) o.old (subst (λ k. AgreeBeside b c k (length body) (header_blocks at prefix parts)) o.stands agree))
     (subst (λ k. bytes_of c k (length body) ≡ body) o.stands there) in
     (subst (IsHeader c at prefix) (sym o.new) stays, one, ap (λ (bs : List Block). head ∷ bs) named)
+
+pub beside_write : BesideWrite
+beside_write b c at n [] same = tt
+beside_write b c at n (x ∷ xs) same = (λ i low high out. sym (same i out), beside_write b c at n xs same)

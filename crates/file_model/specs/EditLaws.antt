@@ -320,6 +320,10 @@ AgreeBeside b c at n [] = Unit {0}
 AgreeBeside b c at n (x ∷ xs) =
     ((i : ℕ) → x.start ≤ i → i < x.start + x.len → (i < at) ⊎ (at + n ≤ i) → b i ≡ c i) × AgreeBeside b c at n xs
 
+-- a write there leaves them so
+abbrev pub BesideWrite : Type 0
+BesideWrite = (b c : Array) (at n : ℕ) (xs : List Block) → SameOutside at n b c → AgreeBeside b c at n xs
+
 -- Where other bytes of the same length stand in the data of one message, which is no continuation, the header has the
 -- same messages with these data in their place, and the same blocks.
 abbrev pub OtherBody : Type 0

@@ -5,8 +5,8 @@ ghost use Rattle.file_model.specs.EditLaws.{KeptOrder, KeptTogether, ApartFromOr
 ghost use Rattle.file_model.specs.EditLaws.{AgreeThrough, AgreeApart, EditFull, EditHolds, DriverStays, EndFull};
 ghost use Rattle.file_model.specs.EditLaws.{EndWritten, InsertOne, InsertOrder, RemoveOne, RemoveOrder, FoundNames};
 ghost use Rattle.file_model.specs.EditLaws.{EditThere, PlainFind, PlainInsert, PlainRemove, PlainWalk, PlainChange};
-ghost use Rattle.file_model.specs.EditLaws.{NewGroup, NewData, NewGroupHeld, NewDataHeld, OtherBody, OtherFirst};
-ghost use Rattle.file_model.specs.EditLaws.{OtherTable, OtherShape, OtherLayout};
+ghost use Rattle.file_model.specs.EditLaws.{NewGroup, NewData, NewGroupHeld, NewDataHeld, OtherBody, BesideWrite};
+ghost use Rattle.file_model.specs.EditLaws.{OtherFirst, OtherTable, OtherShape, OtherLayout};
 
 /// The names of each group of a tree that is held ascend.
 pub fn held_order()
@@ -93,7 +93,8 @@ pub fn new_header()
 
 /// Other data of the same length in one message of a header: the header has the same messages with these data.
 pub fn other_body()
-    ensures { OtherBody }
+    ensures header { OtherBody }
+    ensures write { BesideWrite }
 {}
 
 /// What the object of such a header is: a group with another B-tree and heap, a dataset with another shape or layout.
