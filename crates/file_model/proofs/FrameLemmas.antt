@@ -98,7 +98,7 @@ kept_stays e f blocks r h = record { some = h.some; apart = h.apart; inside = in
 
 -- ---- the file
 
-driver_stays : (b c : Array) (own : Option (List ℕ)) (at : ℕ) (bs : List Block) → Agree b c bs → HasDriver b own at bs → HasDriver c own at bs
+pub driver_stays : (b c : Array) (own : Option (List ℕ)) (at : ℕ) (bs : List Block) → Agree b c bs → HasDriver b own at bs → HasDriver c own at bs
 driver_stays b c None at bs agree h = h
 driver_stays b c (Some ident) at bs agree (inl h) = inl h
 driver_stays b c (Some ident) at bs agree (inr (there, driver, bs_is)) =
@@ -114,7 +114,7 @@ driver_stays b c (Some ident) at bs agree (inr (there, driver, bs_is)) =
       bs_is ∙ ap block bytes,
     )
 
-super_stays : (b c : Array) (e f : Bounds) (s : Superblock) → e.ends Super ≤ f.ends Super → Same b c 0 (super_len s.version) → Spells s (super_bytes_of b e) → Spells s (super_bytes_of c f)
+pub super_stays : (b c : Array) (e f : Bounds) (s : Superblock) → e.ends Super ≤ f.ends Super → Same b c 0 (super_len s.version) → Spells s (super_bytes_of b e) → Spells s (super_bytes_of c f)
 super_stays b c e f s ends same h =
     let n = super_len s.version in
     let told : s.version ≡ version_of (super_bytes_of b e) = ap (λ (t : Superblock). t.version) h.value in

@@ -16,3 +16,13 @@ pub mod NoGroups
 pub mod NoChunks
 pub mod NoRefusal
 pub mod BitesLemmas
+pub mod HeldOrder
+pub mod BlockOrder
+pub mod PathBlocks
+pub mod LinkEdits
+pub mod EditFull
+pub mod EndWritten
+pub mod PartBytes
+pub mod NewHeaders
+pub mod OtherBody
+pub mod OtherObject

@@ -11,3 +11,4 @@ pub mod RefusedGroups
 pub mod RefusedChunks
 pub mod RefusedTree
 pub mod Bites
+pub mod EditLaws
