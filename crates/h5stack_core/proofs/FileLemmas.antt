@@ -4,10 +4,11 @@ use Rattle.std.specs.Str.{bytes_eq}
 use Rattle.std.proofs.lemmas.Slice.Eq.{bytes_eq-Decides}
 use Rattle.outside.specs.Array.{Array}
 use Rattle.outside.specs.Blocks.{Bounds}
-use Rattle.outside.specs.Files.{Files, RestsAt}
+use Rattle.outside.specs.Files.{Files, Snapshot, RestsAt}
 use Rattle.outside.specs.Space.{SpaceView, bounds_of}
-use Rattle.outside.specs.Store.{View, Goes}
-use Rattle.outside.proofs.Goes.{goes_on}
+use Rattle.outside.specs.Store.{View, Goes, GoesOver}
+use Rattle.outside.proofs.Goes.{goes_on, over_on}
+use Rattle.plain_space.specs.CameFrom.{goes_within, over_within}
 use Rattle.object_model.specs.Step.{Plain}
 use Rattle.file_model.specs.Laws.{one_region}
 use Rattle.plain_space.specs.File.{file_in, view_of}
@@ -46,20 +47,20 @@ unmounted_run file reads prints script old (stop.Refused why) h = AtMount (h why
 unmounted_run file reads prints script old stop.Failed h = inl (record { unread = refl; silent = λ told. refl })
 unmounted_run file reads prints script old stop.NoMemory h = tt
 
-goes_wider : (tells : Bool) (P Q : List ℕ → Type 0) (v w : View) → ((q : List ℕ) → P q → Q q) → Goes tells P v w → Goes tells Q v w
-goes_wider tells P Q v w within goes = record {
-  names = goes.names;
-  counts = goes.counts;
-  moment = goes.moment;
-  honest = goes.honest;
-  others = λ told q other. goes.others told q (λ changed. other (within q changed));
-}
-
 -- the store after a mount and a run over the file
 pub file_goes : (tells : Bool) (name : List ℕ) (id : ℕ) (u v w : View) → Goes tells (λ _. ⊥) u v → Goes tells (λ q. q ≡ v.names id) v w → v.names id ≡ name → Goes tells (λ q. q ≡ name) u w
 file_goes tells name id u v w first second named =
-    goes_on tells (λ q. q ≡ name) u v w (goes_wider tells (λ _. ⊥) (λ q. q ≡ name) u v (λ q no. absurd no) first)
-    (goes_wider tells (λ q. q ≡ v.names id) (λ q. q ≡ name) v w (λ q is. is ∙ named) second)
+    goes_on tells (λ q. q ≡ name) u v w (goes_within tells (λ _. ⊥) (λ q. q ≡ name) u v (λ q no. absurd no) first)
+    (goes_within tells (λ q. q ≡ v.names id) (λ q. q ≡ name) v w (λ q is. is ∙ named) second)
+
+-- and what a stop leaves of the other files
+pub file_over : (name : List ℕ) (id : ℕ) (v : View) (la lb lc : Files → Type 0) (pa pb pc : Snapshot → Type 0)
+    → GoesOver (λ _. ⊥) la lb pa pb → GoesOver (λ q. q ≡ v.names id) lb lc pb pc → v.names id ≡ name
+    → GoesOver (λ q. q ≡ name) la lc pa pc
+file_over name id v la lb lc pa pb pc first second named =
+    over_on (λ q. q ≡ name) la lb lc pa pb pc
+    (over_within (λ _. ⊥) (λ q. q ≡ name) la lb pa pb (λ q no. absurd no) first)
+    (over_within (λ q. q ≡ v.names id) (λ q. q ≡ name) lb lc pb pc (λ q is. is ∙ named) second)
 
 -- the file's bytes before the mount and after the run
 pub same_bytes : (tells : Bool) (name : List ℕ) (id : ℕ) (u v w : View) → IsTrue tells → Goes tells (λ _. ⊥) u v → w.names ≡ v.names → v.names id ≡ name → file_in w id ≡ file_in v id → w.files name ≡ u.files name
@@ -90,6 +91,13 @@ closed_on Limit X Y on h = on h
 -- what rests as it reads, by the file's name
 pub rests_named : (name file : List ℕ) (id : ℕ) (w : View) (leaves : Files → Type 0) → w.names id ≡ name → w.files name ≡ file → RestsAt (w.names id) (file_in w id) leaves → RestsAt name file leaves
 rests_named name file id w leaves named is rests c left = (λ k. c (sym named k)) ∙ rests c left ∙ (λ k. w.files (named k)) ∙ is
+
+-- a file that rests does so after calls that only look
+pub rests_seen : (tells : Bool) (name : List ℕ) (id : ℕ) (u v : View) (lu lv : Files → Type 0) → IsTrue tells
+    → Goes tells (λ _. ⊥) u v → v.names id ≡ name → ((c : Files) → lv c → lu c) → RestsAt name (u.files name) lu
+    → RestsAt (v.names id) (file_in v id) lv
+rests_seen tells name id u v lu lv told goes named fewer rests c left =
+    (λ k. c (named k)) ∙ rests c (fewer c left) ∙ sym (goes.others told name (λ no. no)) ∙ sym (λ k. v.files (named k))
 
 -- a file that is opened is refused by no line
 pub opens_refused_by_none : (file : List ℕ) (t : Plain) (r : Refusal) → Opens file t → IsRefusedFile file r → ⊥

@@ -53,12 +53,12 @@ told_words fault ending told (inr (refusal, same)) is = inr same
 pub told_create : (tells : Telling) (file : List ℕ) (before after : Moment) (prints : Bool) (old new : List ℕ) (ending told : Ending) → IsToldAs ending told
     → Creates tells file before after prints old new ending → Creates tells file before after prints old new told
 told_create tells file before after prints old new ending told is h =
-    told_on (Creates tells file before after prints old new) ending told is h (λ refusal. record { kept = h.kept; left = tt })
+    told_on (Creates tells file before after prints old new) ending told is h (λ refusal. record { kept = h.kept; rested = h.rested; images = h.images; left = tt })
 
 pub told_script : (tells : Telling) (file : List ℕ) (before after : Moment) (O : Plain → Type 0) (R : Refusal → Type 0) (x : Transcript) (ending told : Ending) → IsToldAs ending told
     → Runs tells file before after O R x ending → Runs tells file before after O R x told
 told_script tells file before after O R x ending told is h =
-    told_on (Runs tells file before after O R x) ending told is h (λ refusal. record { same = h.same; images = h.images; lasts = λ files images honest. tt; answers = λ files. tt })
+    told_on (Runs tells file before after O R x) ending told is h (λ refusal. record { same = h.same; images = h.images; lasts = λ files images honest. tt; rested = h.rested; answers = λ files. tt })
 
 -- ---- completeness
 

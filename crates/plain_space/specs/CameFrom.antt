@@ -20,7 +20,7 @@ pub record CameFrom {S : Type 0} (tells tells_images : Bool) (v w : View) (leave
   pub same_length : IsTrue tells → end_of b ≡ end_of a → length (file_in w (id_of a)) ≡ length (file_in v (id_of a))
   pub store : Touches tells tells_images (id_of a) v w leaves new_leaves past new_past
 
-goes_within : (tells : Bool) (P Q : List ℕ → Type 0) (v w : View) → ((q : List ℕ) → P q → Q q) → Goes tells P v w
+pub goes_within : (tells : Bool) (P Q : List ℕ → Type 0) (v w : View) → ((q : List ℕ) → P q → Q q) → Goes tells P v w
     → Goes tells Q v w
 goes_within tells P Q v w within goes = record {
   names = goes.names;
@@ -30,7 +30,7 @@ goes_within tells P Q v w within goes = record {
   others = λ told q other. goes.others told q (λ changed. other (within q changed));
 }
 
-over_within : (P Q : List ℕ → Type 0) (lv lw : Files → Type 0) (pv pw : Snapshot → Type 0) → ((q : List ℕ) → P q → Q q)
+pub over_within : (P Q : List ℕ → Type 0) (lv lw : Files → Type 0) (pv pw : Snapshot → Type 0) → ((q : List ℕ) → P q → Q q)
     → GoesOver P lv lw pv pw → GoesOver Q lv lw pv pw
 over_within P Q lv lw pv pw within over = record {
   now = λ c left. let d = over.now c left in (d.0, d.1, λ q other. d.2 q (λ changed. other (within q changed)));
