@@ -2,6 +2,7 @@
 -- Cited by whatever creates a file or says what a created file is.
 use Rattle.std.specs.Prelude.{ℕ, ◌*◌, ◌+◌, List, [], ◌∷◌, ◌++◌, replicate, codes}
 use Rattle.std.specs.Int.{w16, w32, w64, to_le_bytes}
+use Rattle.h5_base.specs.Fields.{undefined}
 
 abbrev pub u16 : ℕ → List ℕ
 u16 = to_le_bytes w16
@@ -14,10 +15,6 @@ u64 = to_le_bytes w64
 
 unfoldable pub zeros : ℕ → List ℕ
 zeros n = replicate n 0
-
--- no address
-abbrev pub undefined : ℕ
-undefined = 0xFFFF_FFFF_FFFF_FFFF
 
 -- Where the blocks of an empty file stand: its one object header, B-tree node, local heap and heap segment, the
 -- driver information block (undefined where there is none), and the end of the file.

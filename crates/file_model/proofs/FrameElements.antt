@@ -6,6 +6,7 @@ use Rattle.std.specs.Str.{bytes_eq}
 use Rattle.std.proofs.lemmas.Bool.Decides.{nat_tests}
 use Rattle.std.proofs.lemmas.List.Elements.{All-head, All-tail, All-take}
 use Rattle.std.proofs.Math.Nat.{mul_comm, mul_assoc}
+use Rattle.h5_base.specs.Fields.{undefined}
 use Rattle.outside.specs.Array.{Array}
 use Rattle.dtype.specs.Products.{product}
 use Rattle.dtype.specs.Types.{size_of}
@@ -15,7 +16,7 @@ use Rattle.header_codec.specs.declared.types.Layout.TheVariants as layout
 use Rattle.node_codec.specs.declared.chunk_node.ChunkKey.{ChunkKey}
 use Rattle.object_model.specs.Boxes.{indices, place, minus, floor_to, all_lt}
 use Rattle.object_model.proofs.BoxLemmas.{and_both, and_true, place-lt, indices-below, map-each}
-use Rattle.outside.specs.Blocks.{Block, placed, undefined, Agree}
+use Rattle.outside.specs.Blocks.{Block, placed, Agree}
 use Rattle.file_model.specs.Chunks.{Chunk, Under, AreChildren, IsNode, IsStored, IsIndex, IsStoredBy, IsIndexed, is_read, chunk_at, chunk_sizes, beyond, bytes_or, stored_at, elements_of}
 use Rattle.file_model.specs.Objects.{DataInfo, IsDataHeader}
 use Rattle.file_model.specs.Headers.{Met}

@@ -15,7 +15,7 @@ use Rattle.dtype.specs.declared.types.Shape.{Shape}
 use Rattle.header_codec.specs.Fills.{IsOfSize}
 use Rattle.header_codec.specs.Headers.{SpellsPrefix, SpellsMessage}
 use Rattle.header_codec.specs.Layouts.{IsOfShape}
-use Rattle.header_codec.specs.Written.{SpellsHeader, Tell, Part as NewPart}
+use Rattle.header_codec.specs.Written.{SpellsHeader, Tell, NewMessage}
 use Rattle.header_codec.specs.Written as written
 use Rattle.header_codec.specs.declared.types.Fill.{Fill}
 use Rattle.header_codec.specs.declared.types.Layout.{Layout}
@@ -29,7 +29,7 @@ use Rattle.file_model.proofs.PartBytes.{split_bytes}
 
 -- ---- messages that stand behind a prefix
 
-message_behind : (pre rest : List ℕ) (i : ℕ) (p : NewPart) → SpellsMessage (record { kind = p.kind; flags = 0; at = length pre + i + 8; len = length p.body }) (pre ++ rest) (length pre + i)
+message_behind : (pre rest : List ℕ) (i : ℕ) (p : NewMessage) → SpellsMessage (record { kind = p.kind; flags = 0; at = length pre + i + 8; len = length p.body }) (pre ++ rest) (length pre + i)
     → SpellsMessage (record { kind = p.kind; flags = 0; at = i + 8; len = length p.body }) rest i
 message_behind pre rest i p h =
     let two : length pre + i + 2 ≡ length pre + (i + 2) = omega arith in
@@ -48,7 +48,7 @@ message_behind pre rest i p h =
       value = λ j. record { kind = is_kind j; flags = is_flags j; at = i + 8; len = is_len j };
     }
 
-stand_behind : (pre rest : List ℕ) (i : ℕ) (ps : List NewPart) → written.Stand (pre ++ rest) (length pre + i) ps → Stand rest i (map met_of ps)
+stand_behind : (pre rest : List ℕ) (i : ℕ) (ps : List NewMessage) → written.Stand (pre ++ rest) (length pre + i) ps → Stand rest i (map met_of ps)
 stand_behind pre rest i [] h = tt
 stand_behind pre rest i (p ∷ ps) h =
     let n = length p.body in
@@ -77,7 +77,7 @@ record ArePlain (ms : List Met) : Type 0 where
   whole : AreWhole ms
   none : flat_map continued ms ≡ []
 
-new_header : (b : Array) (at n : ℕ) (h : NewHeader) (ps : List NewPart) → SpellsHeader h ps (bytes_of b at n) → ArePlain (map met_of ps) → IsNewHeader b at n ps
+new_header : (b : Array) (at n : ℕ) (h : NewHeader) (ps : List NewMessage) → SpellsHeader h ps (bytes_of b at n) → ArePlain (map met_of ps) → IsNewHeader b at n ps
 new_header b at n h ps spelled plain =
     let pre = bytes_of b at 16 in
     let rest = bytes_of b (at + 16) (n - 16) in
@@ -118,7 +118,7 @@ plain_kind m n is lt (inr k) = absurd (omega arith)
 
 -- ---- a group
 
-table_told : (tree heap : ℕ) (ps : List NewPart) → Tell (new.Group tree heap) ps → ArePlain (map met_of ps) × IsGroupHeader (map met_of ps) tree heap
+table_told : (tree heap : ℕ) (ps : List NewMessage) → Tell (new.Group tree heap) ps → ArePlain (map met_of ps) × IsGroupHeader (map met_of ps) tree heap
 table_told tree heap [] h = absurd h
 table_told tree heap (t ∷ []) h = (
   record { some = omega arith; whole = (λ k. h.1.whole, tt); none = rw h.0 refl },
@@ -133,7 +133,7 @@ new_group b at n tree heap ps h =
 
 -- ---- a dataset
 
-four_plain : (s e f l : NewPart) → s.kind ≡ 1 → e.kind ≡ 3 → f.kind ≡ 5 → l.kind ≡ 8 → ArePlain (map met_of (s ∷ e ∷ f ∷ l ∷ []))
+four_plain : (s e f l : NewMessage) → s.kind ≡ 1 → e.kind ≡ 3 → f.kind ≡ 5 → l.kind ≡ 8 → ArePlain (map met_of (s ∷ e ∷ f ∷ l ∷ []))
 four_plain s e f l a b c d = record {
   some = omega arith;
   whole = (
@@ -143,7 +143,7 @@ four_plain s e f l a b c d = record {
   none = rw (a, b, c, d) refl;
 }
 
-data_told : (space : Shape) (elem : ElemType) (fill : Fill) (layout : Layout) (ps : List NewPart) → Tell (new.Dataset space elem fill layout) ps
+data_told : (space : Shape) (elem : ElemType) (fill : Fill) (layout : Layout) (ps : List NewMessage) → Tell (new.Dataset space elem fill layout) ps
     → FitsFile space.dims (size_of elem) → IsOfShape (length space.dims) (size_of elem) layout → IsOfSize (size_of elem) fill
     → ArePlain (map met_of ps) × IsDataHeader (map met_of ps) (new_info space elem fill layout)
 data_told space elem fill layout [] h fits shaped sized = absurd h

@@ -76,7 +76,7 @@ free_of e met x later h = record {
   few = let all = h.few in let sum = length-append met (x ∷ later) in omega (arith, all, sum);
 }
 
-apart_less : (at n m : ℕ) (ys : List Block) → m ≤ n → IsApart (record { start = at; len = n }) ys → IsApart (record { start = at; len = m }) ys
+pub apart_less : (at n m : ℕ) (ys : List Block) → m ≤ n → IsApart (record { start = at; len = n }) ys → IsApart (record { start = at; len = m }) ys
 apart_less at n m [] le h = tt
 apart_less at n m (y ∷ ys) le h = (one h.0, apart_less at n m ys le h.1)
   where

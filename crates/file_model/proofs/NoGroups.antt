@@ -16,15 +16,11 @@ use Rattle.file_model.specs.Limits.{IsSmallHeap}
 use Rattle.h5_base.specs.declared.refusal.Refusal.{Refusal}
 use Rattle.outside.specs.Blocks.{IsPlacedRefused}
 use Rattle.file_model.specs.RefusedGroups.{RefusedUnder, names_of, IsEntryRefused, NoName, Disordered, NoValue, IsLeafRefused, LeafBlock, NoLeaf, InEntries, IsKeyRefused, NoKey, NotBetween, LinksDisordered, AreChildrenRefused, IsNodeRefused, NodeBlock, NoNode, InChildren, IsIndexRefused, heap_block, root_level, IsTableRefused, HeapBlock, NoHeap, LargeHeap, SegmentBlock, InNodes}
+use Rattle.object_model.proofs.OrderLemmas.{ordered_front}
 use Rattle.file_model.proofs.UniqueGroups.{text_same, link_same, IsOne, leaf_same, index_same, level_of}
 use Rattle.file_model.proofs.NoFault.{Room, free_of, not_refused, room_after, placed_not_refused}
 
 -- ---- names in order
-
-ordered_front : (ms ns : List Name) → AreOrdered (ms ++ ns) → AreOrdered ms
-ordered_front [] ns h = tt
-ordered_front (m ∷ []) ns h = (tt, tt)
-ordered_front (m ∷ n ∷ ms) ns h = (h.0, ordered_front (n ∷ ms) ns h.1)
 
 ordered_back : (ms ns : List Name) → AreOrdered (ms ++ ns) → AreOrdered ns
 ordered_back [] ns h = h

@@ -2,9 +2,9 @@
 use Rattle.std.proofs.Common.{◌≡◌, ◌≢◌, ◌⊎◌, ℕ, zero, suc, ◌+◌, ◌<◌, ◌≤◌, max, true, false, List, [], ◌∷◌, ◌++◌, length, refl, sym, ◌∙◌, ap, subst, arith, inl, inr, Option, Some, None}
 use Rattle.std.proofs.lemmas.List.{append_assoc, append-nil}
 use Rattle.outside.specs.Array.{Array, bytes_of}
-use Rattle.outside.specs.Blocks.{Block, Bounds, undefined}
+use Rattle.outside.specs.Blocks.{Block, Bounds}
 use Rattle.h5_base.specs.declared.kinds.BlockKind.TheVariants as kind
-use Rattle.h5_base.specs.Fields.{u32_at}
+use Rattle.h5_base.specs.Fields.{u32_at, undefined}
 use Rattle.super_codec.specs.Super.{Spells}
 use Rattle.super_codec.specs.declared.superblock.Superblock.{Superblock}
 use Rattle.header_codec.specs.Headers.{SpellsPrefix}

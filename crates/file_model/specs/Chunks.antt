@@ -6,6 +6,7 @@ use Rattle.std.specs.Prelude.{length, take, Option, Some, None, IsTrue, if◌the
 use Rattle.std.specs.Ordering.{is_lt, nat_cmp}
 use Rattle.std.specs.Cmp.Lexicographic.{slice_cmp}
 use Rattle.std.specs.Str.{bytes_eq}
+use Rattle.h5_base.specs.Fields.{undefined}
 use Rattle.outside.specs.Array.{Array, bytes_of}
 use Rattle.dtype.specs.Products.{product}
 use Rattle.dtype.specs.Types.{size_of}
@@ -16,7 +17,7 @@ use Rattle.node_codec.specs.declared.chunk_node.ChunkNode.{ChunkNode}
 use Rattle.node_codec.specs.declared.chunk_node.ChunkKey.{ChunkKey}
 use Rattle.object_model.specs.Boxes.{place, minus, floor_to}
 use Rattle.object_model.specs.Data.{elements_by}
-use Rattle.outside.specs.Blocks.{Block, placed, undefined}
+use Rattle.outside.specs.Blocks.{Block, placed}
 use Rattle.file_model.specs.Objects.{DataInfo}
 
 -- a chunk: the index of its first element, and its address

@@ -18,7 +18,7 @@ use Rattle.dtype.specs.declared.types.ElemType.{ElemType}
 use Rattle.dtype.specs.declared.types.Shape.{Shape}
 use Rattle.header_codec.specs.Fills.{IsOfSize}
 use Rattle.header_codec.specs.Layouts.{SpellsLayout, IsOfShape}
-use Rattle.header_codec.specs.Written.{SpellsHeader, Part as NewPart}
+use Rattle.header_codec.specs.Written.{SpellsHeader, NewMessage}
 use Rattle.header_codec.specs.declared.types.Fill.{Fill}
 use Rattle.header_codec.specs.declared.types.Layout.{Layout}
 use Rattle.header_codec.specs.declared.types.NewHeader.TheVariants as new
@@ -219,25 +219,25 @@ PlainChange = (p : List Name) (f : Full → Full) (h : Plain → Plain) (t : Ful
 -- ---- new headers
 
 -- a message as it was written
-abbrev pub met_of : NewPart → Met
+abbrev pub met_of : NewMessage → Met
 met_of p = record { kind = p.kind; flags = 0; body = p.body }
 
 -- the prefix of a written header of n bytes, and its one block of messages
-abbrev pub new_prefix : ℕ → List NewPart → Prefix
+abbrev pub new_prefix : ℕ → List NewMessage → Prefix
 new_prefix n ps = record { messages = length ps; links = 1; size = n - 16 }
 
-abbrev pub new_parts : ℕ → ℕ → List NewPart → List Part
+abbrev pub new_parts : ℕ → ℕ → List NewMessage → List Part
 new_parts at n ps = record { block = record { start = at + 16; len = n - 16 }; messages = map met_of ps } ∷ []
 
 -- The n bytes from an address on are a header with just these messages, and its one block.
-pub record IsNewHeader (b : Array) (at n : ℕ) (ps : List NewPart) : Type 0 where
+pub record IsNewHeader (b : Array) (at n : ℕ) (ps : List NewMessage) : Type 0 where
   pub header : IsHeader b at (new_prefix n ps) (new_parts at n ps)
   pub messages : messages_of (new_parts at n ps) ≡ map met_of ps
   pub blocks : header_blocks at (new_prefix n ps) (new_parts at n ps) ≡ record { start = at; len = n } ∷ []
 
 -- what is written as a group's header is the header of a group, with its B-tree and heap
 abbrev pub NewGroup : Type 0
-NewGroup = (b : Array) (at n tree heap : ℕ) (ps : List NewPart)
+NewGroup = (b : Array) (at n tree heap : ℕ) (ps : List NewMessage)
     → SpellsHeader (new.Group tree heap) ps (bytes_of b at n)
     → IsNewHeader b at n ps × IsGroupHeader (map met_of ps) tree heap
 
@@ -253,7 +253,7 @@ new_info space elem fill layout = record {
 
 -- what is written as a dataset's header is the header of a dataset, where its parts fit one another
 abbrev pub NewData : Type 0
-NewData = (b : Array) (at n : ℕ) (space : Shape) (elem : ElemType) (fill : Fill) (layout : Layout) (ps : List NewPart)
+NewData = (b : Array) (at n : ℕ) (space : Shape) (elem : ElemType) (fill : Fill) (layout : Layout) (ps : List NewMessage)
     → SpellsHeader (new.Dataset space elem fill layout) ps (bytes_of b at n)
     → FitsFile space.dims (size_of elem) → IsOfShape (length space.dims) (size_of elem) layout
     → IsOfSize (size_of elem) fill
@@ -270,7 +270,7 @@ group_at at n tree heap index = record {
 
 -- a group is held where its header was written and its index has links
 abbrev pub NewGroupHeld : Type 0
-NewGroupHeld = (b : Array) (ks : Ks) (at n tree heap : ℕ) (ps : List NewPart) (fs : List Found) (index : List Block)
+NewGroupHeld = (b : Array) (ks : Ks) (at n tree heap : ℕ) (ps : List NewMessage) (fs : List Found) (index : List Block)
     → SpellsHeader (new.Group tree heap) ps (bytes_of b at n) → HasLinks b ks tree heap fs index
     → IsGroup b ks (group_at at n tree heap index) fs
 
@@ -286,7 +286,7 @@ data_at b at n i cs storage = record {
 
 -- a dataset is held where its header was written and its elements are stored
 abbrev pub NewDataHeld : Type 0
-NewDataHeld = (b : Array) (ks : Ks) (at n : ℕ) (i : DataInfo) (fill : Fill) (ps : List NewPart) (cs : List Chunk)
+NewDataHeld = (b : Array) (ks : Ks) (at n : ℕ) (i : DataInfo) (fill : Fill) (ps : List NewMessage) (cs : List Chunk)
     (storage : List Block)
     → SpellsHeader (new.Dataset i.shape i.elem fill i.layout) ps (bytes_of b at n)
     → i ≡ new_info i.shape i.elem fill i.layout

@@ -3,14 +3,14 @@
 use Rattle.std.specs.Prelude.{◌≡◌, ◌≢◌, ◌⊎◌, ℕ, ◌+◌, min, List, [], ◌∷◌, ◌++◌, slice_index, Option, Some, None}
 use Rattle.outside.specs.Array.{Array, bytes_of}
 use Rattle.h5_base.specs.declared.extent.MemClass.TheVariants.{Super}
-use Rattle.h5_base.specs.Fields.{bytes_at, u32_at}
+use Rattle.h5_base.specs.Fields.{bytes_at, u32_at, undefined}
 use Rattle.super_codec.specs.Super.{Spells, super_len}
 use Rattle.super_codec.specs.declared.superblock.Superblock.{Superblock}
 use Rattle.header_codec.specs.declared.types.Prefix.{Prefix}
 use Rattle.object_model.specs.Tree.{Tree, Group, Leaf, Links, Empty, Link, map_tree}
 use Rattle.object_model.specs.Data.{Data}
 use Rattle.object_model.specs.Step.{Plain, Object, Dataset, Soft, Other}
-use Rattle.outside.specs.Blocks.{Block, Bounds, AreKept, undefined}
+use Rattle.outside.specs.Blocks.{Block, Bounds, AreKept}
 use Rattle.file_model.specs.Headers.{Part, IsHeader, header_blocks, messages_of, later_header}
 use Rattle.file_model.specs.Objects.{DataInfo, IsGroupHeader, IsDataHeader, IsOtherHeader, max_of}
 use Rattle.file_model.specs.Groups.{Ks, Found, Target, Header, Text, HasLinks}

@@ -2,10 +2,10 @@
 -- objects, depth first in the order of names. Cited by what opens a file.
 use Rattle.std.specs.Prelude.{◌≡◌, ◌≢◌, ◌⊎◌, ℕ, zero, suc, ◌+◌, ◌≤◌, false, List, [], ◌∷◌, ◌++◌, slice_index, Some}
 use Rattle.outside.specs.Array.{Array, bytes_of}
-use Rattle.outside.specs.Blocks.{Block, Bounds, undefined}
+use Rattle.outside.specs.Blocks.{Block, Bounds}
 use Rattle.h5_base.specs.declared.kinds.BlockKind.TheVariants as kind
 use Rattle.h5_base.specs.declared.kinds.What.TheVariants as what
-use Rattle.h5_base.specs.Fields.{bytes_at, u32_at}
+use Rattle.h5_base.specs.Fields.{bytes_at, u32_at, undefined}
 use Rattle.super_codec.specs.Super.{Spells, stop_of, super_len}
 use Rattle.super_codec.specs.declared.superblock.Superblock.{Superblock}
 use Rattle.super_codec.specs.declared.superblock.SuperStop.{SuperStop}

@@ -3,10 +3,9 @@
 use Rattle.std.specs.Prelude.{◌≡◌, ℕ, zero, suc, List, [], ◌∷◌, slice_index}
 use Rattle.std.specs.List.{flat_map}
 use Rattle.outside.specs.Array.{Array, bytes_of}
-use Rattle.h5_base.specs.Fields.{u64_at}
+use Rattle.h5_base.specs.Fields.{u64_at, undefined}
 use Rattle.node_codec.specs.GroupNodes.{group_node_len, group_node_of}
 use Rattle.node_codec.specs.ChunkNodes.{chunk_node_len, chunk_node_of}
-use Rattle.outside.specs.Blocks.{undefined}
 
 -- the address behind a node on its level
 abbrev pub next_of : List ℕ → ℕ

@@ -3,6 +3,10 @@
 use Rattle.std.specs.Prelude.{◌≡◌, ℕ, zero, suc, ◌+◌, List, [], ◌∷◌, ◌++◌, length, take, drop, flat_map}
 use Rattle.std.specs.Int.{w16, w32, w64, from_le_bytes, to_le_bytes}
 
+-- an address that is undefined: all its bits are set (HDF5 File Format Specification 3.0, I)
+abbrev pub undefined : ℕ
+undefined = 0xFFFF_FFFF_FFFF_FFFF
+
 -- the n bytes that stand from `at` on
 abbrev pub bytes_at : List ℕ → ℕ → ℕ → List ℕ
 bytes_at b at n = take n (drop at b)

@@ -7,7 +7,7 @@ use Rattle.std.proofs.Math.Seq.{take-append_seam}
 use Rattle.std.proofs.lemmas.Nat.{from_le_bytes-to_le_bytes_2, from_le_bytes-to_le_bytes_4}
 use Rattle.h5_base.specs.Fields.{bytes_at, u16_at, u32_at}
 use Rattle.h5_base.proofs.FieldLemmas.{bytes_at-past, u16_at-past}
-use Rattle.header_codec.specs.Written.{Part, part, filled, padding, message_bytes, messages_bytes, prefix_bytes, Stand, Tell, SpellsHeader, IsFit}
+use Rattle.header_codec.specs.Written.{NewMessage, part, filled, padding, message_bytes, messages_bytes, prefix_bytes, StandToEnd, Tell, SpellsHeader, IsFit}
 use Rattle.header_codec.specs.Headers.{SpellsMessage}
 use Rattle.header_codec.specs.declared.types.NewHeader.{NewHeader}
 
@@ -34,11 +34,11 @@ part_fits type body k le =
     let e : length (filled body) ≡ length body + padding (length body) = length-filled body in
     record { kind = k; size = omega arith; multiple = omega arith }
 
-abbrev pub AreFit : List Part → Type 0
+abbrev pub AreFit : List NewMessage → Type 0
 AreFit [] = Unit {0}
 AreFit (p ∷ ps) = IsFit p × AreFit ps
 
-message_there : (pre rest : List ℕ) (p : Part) → IsFit p → SpellsMessage (record { kind = p.kind; flags = 0; at = length pre + 8; len = length p.body }) (pre ++ (message_bytes p ++ rest)) (length pre)
+message_there : (pre rest : List ℕ) (p : NewMessage) → IsFit p → SpellsMessage (record { kind = p.kind; flags = 0; at = length pre + 8; len = length p.body }) (pre ++ (message_bytes p ++ rest)) (length pre)
 unfolding u16_at
 message_there pre rest p f =
     let k : p.kind < 2 ^ 16 = f.kind in
@@ -54,23 +54,23 @@ message_there pre rest p f =
       value = sym (rw (size, type, flags) refl);
     }
 
-body_there : (pre rest : List ℕ) (p : Part) → bytes_at (pre ++ (message_bytes p ++ rest)) (length pre + 8) (length p.body) ≡ p.body
+body_there : (pre rest : List ℕ) (p : NewMessage) → bytes_at (pre ++ (message_bytes p ++ rest)) (length pre + 8) (length p.body) ≡ p.body
 body_there pre rest p = bytes_at-past pre (message_bytes p ++ rest) 8 (length p.body) ∙ take-append_seam p.body rest
 
 -- messages stand where they were laid
-pub stand : (pre : List ℕ) (ps : List Part) → AreFit ps → Stand (pre ++ messages_bytes ps) (length pre) ps
+pub stand : (pre : List ℕ) (ps : List NewMessage) → AreFit ps → StandToEnd (pre ++ messages_bytes ps) (length pre) ps
 stand pre [] f = rw append-nil refl
 stand pre (p ∷ ps) f =
     let rest : List ℕ = messages_bytes ps in
     let at : length (pre ++ message_bytes p) ≡ length pre + 8 + length p.body = omega (arith, length-append pre (message_bytes p)) in
-    let next : Stand ((pre ++ message_bytes p) ++ rest) (length (pre ++ message_bytes p)) ps = stand (pre ++ message_bytes p) ps f.1 in (
+    let next : StandToEnd ((pre ++ message_bytes p) ++ rest) (length (pre ++ message_bytes p)) ps = stand (pre ++ message_bytes p) ps f.1 in (
       message_there pre rest p f.0,
       body_there pre rest p,
-      subst (λ (n : ℕ). Stand (pre ++ (message_bytes p ++ rest)) n ps) at (rw (append_assoc pre (message_bytes p) rest) at next),
+      subst (λ (n : ℕ). StandToEnd (pre ++ (message_bytes p ++ rest)) n ps) at (rw (append_assoc pre (message_bytes p) rest) at next),
     )
 
 -- a header whose messages tell the value spells it
-pub header_spelled : (h : NewHeader) (ps : List Part) → AreFit ps → length ps < 2 ^ 16 → length (messages_bytes ps) < 2 ^ 32 → Tell h ps → SpellsHeader h ps (prefix_bytes (length ps) (length (messages_bytes ps)) ++ messages_bytes ps)
+pub header_spelled : (h : NewHeader) (ps : List NewMessage) → AreFit ps → length ps < 2 ^ 16 → length (messages_bytes ps) < 2 ^ 32 → Tell h ps → SpellsHeader h ps (prefix_bytes (length ps) (length (messages_bytes ps)) ++ messages_bytes ps)
 unfolding u16_at u32_at
 header_spelled h ps f few short told =
     let n : ℕ = length (messages_bytes ps) in
@@ -85,7 +85,7 @@ header_spelled h ps f few short told =
     }
 
 -- messages that fit are short
-pub messages_short : (ps : List Part) → AreFit ps → length (messages_bytes ps) ≤ 65544 * length ps
+pub messages_short : (ps : List NewMessage) → AreFit ps → length (messages_bytes ps) ≤ 65544 * length ps
 messages_short [] f = omega arith
 messages_short (p ∷ ps) f =
     let size : length p.body < 2 ^ 16 = f.0.size in
@@ -93,7 +93,7 @@ messages_short (p ∷ ps) f =
     omega (arith, length-append (message_bytes p) (messages_bytes ps))
 
 -- four messages, each laid behind the ones before
-pub four_laid : (a b c d : Part) (none one two three four : List ℕ) → none ≡ [] → one ≡ none ++ message_bytes a → two ≡ one ++ message_bytes b → three ≡ two ++ message_bytes c → four ≡ three ++ message_bytes d → four ≡ messages_bytes (a ∷ b ∷ c ∷ d ∷ [])
+pub four_laid : (a b c d : NewMessage) (none one two three four : List ℕ) → none ≡ [] → one ≡ none ++ message_bytes a → two ≡ one ++ message_bytes b → three ≡ two ++ message_bytes c → four ≡ three ++ message_bytes d → four ≡ messages_bytes (a ∷ b ∷ c ∷ d ∷ [])
 four_laid a b c d none one two three four e0 e1 e2 e3 e4 =
     e4 ∙ ap (λ x. x ++ message_bytes d) (e3 ∙ ap (λ x. x ++ message_bytes c) (e2 ∙ ap (λ x. x ++ message_bytes b) (e1 ∙ ap (λ x. x ++ message_bytes a) e0)))
     ∙ regroup (message_bytes a) (message_bytes b) (message_bytes c) (message_bytes d)

@@ -10,6 +10,7 @@ use Rattle.h5_base.specs.Fields.{u16_at, u32_at, u64_at, u64s_bytes}
 use Rattle.h5_base.proofs.FieldLemmas.{u16_at-front, u32_at-front, u32_at-past, u32_at-written, length-u64s_bytes}
 use Rattle.dtype.specs.declared.types.Shape.{Shape}
 use Rattle.dtype.specs.declared.types.ElemType.{ElemType}
+use Rattle.dtype.specs.Products.{product}
 use Rattle.dtype.specs.Shapes.{IsShape, SpellsShape, shape_bytes, max_bytes, max_flag, HasLength}
 use Rattle.dtype.specs.Types.{IsClass, IsInt, IsText, SpellsType, int_of, text_of}
 use Rattle.header_codec.specs.declared.types.Fill.{Fill}
@@ -17,7 +18,7 @@ use Rattle.header_codec.specs.declared.types.Fill.TheVariants.{Zeros, Value}
 use Rattle.header_codec.specs.declared.types.Layout.{Layout}
 use Rattle.header_codec.specs.declared.types.Layout.TheVariants.{Contiguous, Chunked}
 use Rattle.header_codec.specs.Fills.{SpellsFill}
-use Rattle.header_codec.specs.Layouts.{SpellsLayout, IsChunk, u32s_at, product}
+use Rattle.header_codec.specs.Layouts.{SpellsLayout, IsChunk, u32s_at}
 use Rattle.header_codec.specs.Written.{filled, padding, IsFillValue, fill_bytes, alloc_time, value_bytes, layout_bytes}
 use Rattle.header_codec.proofs.SizeLaws.{product-item}
 

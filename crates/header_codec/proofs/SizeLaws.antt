@@ -2,7 +2,8 @@
 use Rattle.std.proofs.Common.{◌≡◌, ℕ, zero, suc, ◌+◌, ◌*◌, ◌<◌, ◌≤◌, List, [], ◌∷◌, ◌++◌, length, take, get_or, All, refl, sym, arith}
 use Rattle.std.proofs.Math.Nat.{mul-le-mul_left, mul-le-mul_right, mul_assoc}
 use Rattle.h5_base.specs.Fields.{u32_at}
-use Rattle.header_codec.specs.Layouts.{u32s_at, product}
+use Rattle.dtype.specs.Products.{product}
+use Rattle.header_codec.specs.Layouts.{u32s_at}
 
 -- one number more at the end
 pub u32s_at-more : (b : List ℕ) (at n : ℕ) → u32s_at b at (n + 1) ≡ u32s_at b at n ++ u32_at b (at + 4 * n) ∷ []

@@ -2,6 +2,7 @@
 -- 3). Cited by `read_layout` and `write_header`, and by what says where a dataset's elements are.
 use Rattle.std.specs.Prelude.{◌≡◌, ℕ, zero, suc, ◌+◌, ◌*◌, ◌^◌, ◌≤◌, ◌<◌, ◌⊎◌, List, [], ◌∷◌, length, slice_index, All}
 use Rattle.h5_base.specs.Fields.{u32_at, u64_at}
+use Rattle.dtype.specs.Products.{product}
 use Rattle.header_codec.specs.declared.types.Layout.{Layout}
 use Rattle.header_codec.specs.declared.types.Layout.TheVariants.{Contiguous, Chunked}
 
@@ -9,10 +10,6 @@ use Rattle.header_codec.specs.declared.types.Layout.TheVariants.{Contiguous, Chu
 abbrev pub u32s_at : List ℕ → ℕ → ℕ → List ℕ
 u32s_at b at zero = []
 u32s_at b at (suc n) = u32_at b at ∷ u32s_at b (at + 4) n
-
-abbrev pub product : List ℕ → ℕ
-product [] = 1
-product (n ∷ ns) = n * product ns
 
 -- Class 1: address 8, size 8.
 pub record IsContiguous (b : List ℕ) : Type 0 where

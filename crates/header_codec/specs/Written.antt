@@ -41,16 +41,16 @@ HasHeader (Dataset space elem fill layout) = IsDataset space elem fill layout
 -- ---- what bytes mean
 
 -- a message, by its type and its data
-pub record Part : Type 0 where
+pub record NewMessage : Type 0 where
   pub kind : ℕ
   pub body : List ℕ
 
 -- These messages, their flags 0, stand one behind the other from there to the end of the bytes.
-abbrev pub Stand : List ℕ → ℕ → List Part → Type 0
-Stand b at [] = at ≡ length b
-Stand b at (p ∷ ps) =
+abbrev pub StandToEnd : List ℕ → ℕ → List NewMessage → Type 0
+StandToEnd b at [] = at ≡ length b
+StandToEnd b at (p ∷ ps) =
     SpellsMessage (record { kind = p.kind; flags = 0; at = at + 8; len = length p.body }) b at
-    × (bytes_at b (at + 8) (length p.body) ≡ p.body) × Stand b (at + 8 + length p.body) ps
+    × (bytes_at b (at + 8) (length p.body) ≡ p.body) × StandToEnd b (at + 8 + length p.body) ps
 
 -- a symbol table message: B-tree address 8, heap address 8 (IV.A.2.r)
 pub record SpellsTable (tree heap : ℕ) (b : List ℕ) : Type 0 where
@@ -59,7 +59,7 @@ pub record SpellsTable (tree heap : ℕ) (b : List ℕ) : Type 0 where
   pub heap_at : heap ≡ u64_at b 8
 
 -- Just the messages of this group or dataset, in the order of their types.
-abbrev pub Tell : NewHeader → List Part → Type 0
+abbrev pub Tell : NewHeader → List NewMessage → Type 0
 Tell (Group tree heap) (t ∷ []) = (t.kind ≡ 0x11) × SpellsTable tree heap t.body
 Tell (Dataset space elem fill layout) (s ∷ e ∷ f ∷ l ∷ []) =
     (s.kind ≡ 1) × SpellsShape space s.body × (e.kind ≡ 3) × SpellsType elem e.body × (f.kind ≡ 5)
@@ -67,9 +67,9 @@ Tell (Dataset space elem fill layout) (s ∷ e ∷ f ∷ l ∷ []) =
 Tell _ _ = ⊥
 
 -- The bytes are the whole header of an object that one link names, its messages these.
-pub record SpellsHeader (h : NewHeader) (parts : List Part) (b : List ℕ) : Type 0 where
+pub record SpellsHeader (h : NewHeader) (parts : List NewMessage) (b : List ℕ) : Type 0 where
   pub prefix : SpellsPrefix (record { messages = length parts; links = 1; size = length b - 16 }) b
-  pub messages : Stand b 16 parts
+  pub messages : StandToEnd b 16 parts
   pub told : Tell h parts
 
 -- ---- which bytes are written
@@ -81,24 +81,24 @@ padding n = (8 - n % 8) % 8
 abbrev pub filled : List ℕ → List ℕ
 filled body = body ++ replicate (padding (length body)) 0
 
-abbrev pub part : ℕ → List ℕ → Part
+abbrev pub part : ℕ → List ℕ → NewMessage
 part type body = record { kind = type; body = filled body }
 
 -- a message whose type and size fit their fields
-pub record IsFit (p : Part) : Type 0 where
+pub record IsFit (p : NewMessage) : Type 0 where
   pub kind : p.kind < 2 ^ 16
   pub size : length p.body < 2 ^ 16
   pub multiple : length p.body % 8 ≡ 0
 
 -- what is reserved is 0
-abbrev pub message_bytes : Part → List ℕ
+abbrev pub message_bytes : NewMessage → List ℕ
 message_bytes p = to_le_bytes w16 p.kind ++ to_le_bytes w16 (length p.body) ++ replicate 4 0 ++ p.body
 
 abbrev pub prefix_bytes : (count size : ℕ) → List ℕ
 prefix_bytes count size = (1 ∷ 0 ∷ []) ++ to_le_bytes w16 count ++ to_le_bytes w32 1 ++ to_le_bytes w32 size ++
     replicate 4 0
 
-abbrev pub messages_bytes : List Part → List ℕ
+abbrev pub messages_bytes : List NewMessage → List ℕ
 messages_bytes parts = flat_map message_bytes parts
 
 abbrev pub table_bytes : (tree heap : ℕ) → List ℕ
@@ -123,7 +123,7 @@ layout_bytes (Chunked tree sizes) = (3 ∷ 2 ∷ length sizes ∷ []) ++ to_le_b
     (to_le_bytes w32) sizes
 
 -- the messages that are written
-abbrev pub parts_of : NewHeader → List Part
+abbrev pub parts_of : NewHeader → List NewMessage
 parts_of (Group tree heap) = part 0x11 (table_bytes tree heap) ∷ []
 parts_of (Dataset space elem fill layout) =
     part 1 (shape_bytes space) ∷ part 3 (type_bytes elem) ∷ part 5

@@ -2,7 +2,8 @@ ghost use Rattle.std.specs.Prelude.{◌≡◌, ◌+◌, ◌*◌, ◌≤◌, ◌<
 ghost use Rattle.std.specs.Option.{SomeIff};
 ghost use Rattle.header_codec.specs.declared.types.Layout.{Layout};
 ghost use Rattle.header_codec.specs.Layouts.{IsContiguous, HasChunkHead, IsChunk, IsOfShape, SpellsLayout, u32s_at};
-ghost use Rattle.header_codec.specs.Layouts.{product, dimensionality};
+ghost use Rattle.dtype.specs.Products.{product};
+ghost use Rattle.header_codec.specs.Layouts.{dimensionality};
 
 use crate::types::Layout;
 use dtype::{Dims, PartStop};

@@ -1,4 +1,5 @@
 -- A block that passes the last address is refused beside those that were met for the same reason, however long it is.
+use Rattle.file_model.proofs.NoFault.{apart_less}
 use Rattle.std.proofs.Common.{ℕ, ◌+◌, ◌^◌, ◌<◌, ◌≤◌, List, [], ◌∷◌, Option, subst, arith, inl, inr}
 use Rattle.std.specs.List.{Contains}
 use Rattle.outside.specs.Blocks.{Block, Bounds, AreApart, IsApart, IsInside, AllInside, IsOverlap, IsBlockRefused, Again, Shares, Outside, OneMore}
@@ -21,14 +22,6 @@ ends_low v own y sound inside =
     let limit = sound.high inside.0 in
     let small = sound.fits inside.0 in
     omega (arith, high, limit, small)
-
-apart_less : (at n m : ℕ) (ys : List Block) → m ≤ n → IsApart (record { start = at; len = n }) ys → IsApart (record { start = at; len = m }) ys
-apart_less at n m [] le h = tt
-apart_less at n m (y ∷ ys) le h = (one h.0, apart_less at n m ys le h.1)
-  where
-    one : AreApart (record { start = at; len = n }) y → AreApart (record { start = at; len = m }) y
-    one (inl a) = inl (omega (arith, a, le))
-    one (inr a) = inr a
 
 pub refused_less : (v : SpaceView) (own : Option (List ℕ)) (met : List Block) (at n m : ℕ) (kind : BlockKind) (r : Refusal) → AreRegions v.regions v.ends → AllInside (bounds_of v own) met → 2 ^ 64 ≤ at + m → m ≤ n
     → IsBlockRefused (bounds_of v own) met (record { start = at; len = n }) kind r → IsBlockRefused (bounds_of v own) met (record { start = at; len = m }) kind r

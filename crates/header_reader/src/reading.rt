@@ -41,7 +41,7 @@ fn gather<V: Space>(
     prefix: Prefix,
 ) -> Result<Messages, Stop>
     requires stands { V.Stands (space_of blocks.old) }
-    requires short { 16 + prefix.size ≤ 1048576 }
+    requires short { 16 + prefix.size ≤ most_header }
     requires fits { at + 16 + prefix.size < 2 ^ 64 }
     ensures found { IfOk result (λ messages. (parts : List Part)
         × (IsTrue V.tells → IsGathered (array_of V.view blocks.old) at prefix messages parts)

@@ -9,6 +9,7 @@ ghost use Rattle.outside.specs.Blocks.{Block, placed};
 ghost use Rattle.outside.specs.Causes.{OneRose};
 ghost use Rattle.block_space.specs.Blocks.{Keeps, Refuses, array_of, space_of};
 ghost use Rattle.file_model.specs.Headers.{Met, AreWhole, continued, first_block};
+ghost use Rattle.file_model.specs.Limits.{most_header};
 ghost use Rattle.file_model.specs.Refusals.{met_bytes};
 ghost use Rattle.header_reader.specs.Gathered.{Gathers};
 ghost use Rattle.header_reader.specs.Walks.{Meets, IsMessageAt, AreMessages, IsNameRefused, IsStepRefused, IsBlockStop};
@@ -67,7 +68,7 @@ fn whole_message(bytes: &[u8], place: usize) -> Option<Message>
 impl Walk {
     /// Of a header of which nothing was met but its prefix, at an address.
     pub fn begin(alloc: Global, at: u64, prefix: Prefix) -> Result<Walk, Stop>
-        requires short { 16 + prefix.size ≤ 1048576 }
+        requires short { 16 + prefix.size ≤ most_header }
         requires fits { at + 16 + prefix.size < 2 ^ 64 }
         ensures gathered { IfOk result (λ walk. Gathers walk.messages []) }
         ensures waiting { IfOk result (λ walk. waiting_of walk ≡ first_block at prefix ∷ []) }
@@ -97,12 +98,12 @@ impl Walk {
         len: u64,
     ) -> Result<(), Stop>
         requires stands { V.Stands (space_of blocks.old) }
-        requires short { self.old.total ≤ 1048576 }
+        requires short { self.old.total ≤ most_header }
         ensures kept { OnOk result ((met : List Block) → Keeps V.view blocks.old met
             → Keeps V.view blocks.new (met ++ placed start len)) }
         ensures waiting { OnOk result (waiting_of self.new ≡ waiting_of self.old ++ placed start len) }
         ensures total { OnOk result (self.new.total ≡ self.old.total + len) }
-        ensures short { OnOk result (self.new.total ≤ 1048576) }
+        ensures short { OnOk result (self.new.total ≤ most_header) }
         ensures messages { self.new.messages ≡ self.old.messages }
         ensures wanted { self.new.wanted ≡ self.old.wanted }
         ensures refused { IfErr result (Refuses V.view blocks.old
@@ -129,7 +130,7 @@ impl Walk {
         body: &[u8],
     ) -> Result<(), Stop>
         requires stands { V.Stands (space_of blocks.old) }
-        requires short { self.old.total ≤ 1048576 }
+        requires short { self.old.total ≤ most_header }
         requires whole { kind ≡ 0x10 → 16 ≤ length body.now }
         ensures kept { OnOk result ((met : List Block) → Keeps V.view blocks.old met
             → Keeps V.view blocks.new (met ++ continued (record { kind = kind; flags = 0; body = body.now }))) }
@@ -137,7 +138,7 @@ impl Walk {
             (record { kind = kind; flags = 0; body = body.now })) }
         ensures total { OnOk result (self.new.total ≡ self.old.total + met_bytes
             (continued (record { kind = kind; flags = 0; body = body.now }))) }
-        ensures short { OnOk result (self.new.total ≤ 1048576) }
+        ensures short { OnOk result (self.new.total ≤ most_header) }
         ensures messages { self.new.messages ≡ self.old.messages }
         ensures wanted { self.new.wanted ≡ self.old.wanted }
         ensures refused { IfErr result (Refuses V.view blocks.old (λ e met r. (kind ≡ 0x10)
@@ -161,7 +162,7 @@ impl Walk {
         place: usize,
     ) -> Result<usize, Stop>
         requires stands { V.Stands (space_of blocks.old) }
-        requires short { self.old.total ≤ 1048576 }
+        requires short { self.old.total ≤ most_header }
         requires wanted { 0 < self.old.wanted }
         requires fits { start + length bytes.now ≤ 2 ^ 64 }
         requires room { place + 8 ≤ length bytes.now }
@@ -194,7 +195,7 @@ impl Walk {
         bytes: &[u8],
     ) -> Result<(), Stop>
         requires stands { V.Stands (space_of blocks.old) }
-        requires short { self.old.total ≤ 1048576 }
+        requires short { self.old.total ≤ most_header }
         requires fits { start + length bytes.now ≤ 2 ^ 64 }
         ensures found { OnOk result ((ms : List Met) × AreMessages bytes.now self.old.wanted ms
             × Meets self.old self.new ms
@@ -220,7 +221,7 @@ impl Walk {
         part: Extent,
     ) -> Result<(), Stop>
         requires stands { V.Stands (space_of blocks.old) }
-        requires short { self.old.total ≤ 1048576 }
+        requires short { self.old.total ≤ most_header }
         ensures found { OnOk result ((ms : List Met)
             × (IsTrue V.tells → AreMessages (bytes_of (array_of V.view blocks.old) part.start part.len)
             self.old.wanted ms)

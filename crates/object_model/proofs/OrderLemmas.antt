@@ -1,5 +1,5 @@
 -- The names of each group stay in order.
-use Rattle.std.proofs.Common.{◌≡◌, ◌≢◌, Bool, true, false, cond, List, [], ◌∷◌, Some, None, Ok, refl, sym, ◌∙◌, ap, subst, inl, inr, ◌⊎◌}
+use Rattle.std.proofs.Common.{◌≡◌, ◌≢◌, Bool, true, false, cond, List, [], ◌∷◌, ◌++◌, Some, None, Ok, refl, sym, ◌∙◌, ap, subst, inl, inr, ◌⊎◌}
 use Rattle.std.specs.declared.cmp.Ordering.{Ordering}
 use Rattle.std.specs.declared.cmp.Ordering.TheVariants.{Less, Equal, Greater}
 use Rattle.std.specs.Ordering.{is_lt, is_eq, nat_cmp, ordering_reverse}
@@ -11,7 +11,7 @@ use Rattle.std.proofs.lemmas.Slice.Eq.{bytes_eq-Decides}
 use Rattle.object_model.specs.Tree.{Tree, Group, Leaf, Links, Empty, Link, Name, names, find, walk, edit, replace, insert, remove, relink, same_name, name_lt, ComesFirst, AreOrdered, AreOrderedBelow, IsOrdered}
 use Rattle.object_model.proofs.TreeLemmas.{same_or_not}
 
-less_is : (o : Ordering) → is_lt o ≡ true → o ≡ Less
+pub less_is : (o : Ordering) → is_lt o ≡ true → o ≡ Less
 less_is Less h = refl
 less_is Equal h = cc
 less_is Greater h = cc
@@ -120,3 +120,9 @@ ordered-add n new t g ls is none fresh o =
 pub ordered-remove_link : {G L : Type 0} (n : Name) (t : Tree G L) → IsOrdered t → IsOrdered (relink (λ ls. remove ls n) t)
 ordered-remove_link n (Group g ls) o = (ordered-remove ls n o.0, below-remove ls n o.1)
 ordered-remove_link n (Leaf l) o = tt
+
+-- names that ascend, without those behind
+pub ordered_front : (ms ns : List Name) → AreOrdered (ms ++ ns) → AreOrdered ms
+ordered_front [] ns h = tt
+ordered_front (m ∷ []) ns h = (tt, tt)
+ordered_front (m ∷ k ∷ ms) ns h = (h.0, ordered_front (k ∷ ms) ns h.1)

@@ -1,7 +1,7 @@
 -- A tree that grows link by link, in the order of names.
 use Rattle.std.proofs.Common.{◌≡◌, ◌≢◌, ◌⊎◌, ℕ, ◌+◌, true, false, cond, List, [], ◌∷◌, ◌++◌, Option, Some, None, refl, sym, ◌∙◌, ap, subst, arith, inl, inr}
 use Rattle.object_model.specs.Tree.{Tree, Links, Empty, Link, Group, Leaf, Name, name_lt, names, insert, AreOrdered}
-use Rattle.object_model.proofs.OrderLemmas.{lt_trans}
+use Rattle.object_model.proofs.OrderLemmas.{lt_trans, ordered_front}
 use Rattle.tree_nodes.specs.declared.node.Node.{Node}
 use Rattle.tree_nodes.specs.declared.node.NodeId.{NodeId}
 use Rattle.tree_nodes.specs.declared.tree.ObjectTree.{ObjectTree}
@@ -41,11 +41,6 @@ insert_last (Link m u rest) n t h =
 pub names-last : {G L : Type 0} (ls : Links G L) (n : Name) (t : Tree G L) → names (last_link ls n t) ≡ names ls ++ n ∷ []
 names-last Empty n t = refl
 names-last (Link m u rest) n t = ap (λ (l : List Name). m ∷ l) (names-last rest n t)
-
-ordered_front : (ms ns : List Name) → AreOrdered (ms ++ ns) → AreOrdered ms
-ordered_front [] ns h = tt
-ordered_front (m ∷ []) ns h = (tt, tt)
-ordered_front (m ∷ k ∷ ms) ns h = (h.0, ordered_front (k ∷ ms) ns h.1)
 
 none_before : (ls : KeyedLinks) (n : Name) → AllBefore (names ls) n → find_link (child_links ls) n ≡ None
 none_before Empty n h = refl

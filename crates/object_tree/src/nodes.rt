@@ -5,6 +5,7 @@ ghost use Rattle.outside.specs.Causes.{OneRose};
 ghost use Rattle.outside.specs.Space.{bounds_of};
 ghost use Rattle.block_space.specs.Blocks.{Keeps, Takes, Refuses, array_of, space_of};
 ghost use Rattle.h5_base.specs.Refusals.{refusal_of};
+ghost use Rattle.file_model.specs.Limits.{most_objects};
 ghost use Rattle.file_model.specs.RefusedTree.{IsRefusedWith, IsObjectRefused};
 ghost use Rattle.header_reader.specs.Found.{IsFound};
 ghost use Rattle.header_reader.specs.Told.{IsSoundNode};
@@ -37,7 +38,7 @@ pub(crate) fn read_node<V: Space>(
     requires listed { (met : List Block) × Keeps V.view blocks.old met }
     ensures found { IsTrue V.tells → IfOk result
         (λ n. Takes V.view blocks.old blocks.new (IsNodeFound (array_of V.view blocks.old) ks at n)) }
-    ensures few { OnOk result (objects < 65536) }
+    ensures few { OnOk result (objects < most_objects) }
     ensures sound { IfOk result IsSoundNode }
     ensures refused { IsTrue V.tells → IfErr result (λ stop. (levels : ℕ) → Refuses V.view blocks.old (λ e met.
         IsRefusedWith (IsObjectRefused (array_of V.view blocks.old) e ks levels) (array_of V.view blocks.old) e ks

@@ -6,11 +6,11 @@ ghost use Rattle.outside.specs.Space.{bounds_of};
 ghost use Rattle.h5_base.specs.declared.extent.MemClass.TheVariants as class;
 ghost use Rattle.block_space.specs.Blocks.{Keeps, Refuses, array_of, space_of};
 ghost use Rattle.h5_base.specs.Refusals.{refusal_of};
-ghost use Rattle.super_codec.specs.Super.{Spells, Fits, super_len};
+ghost use Rattle.super_codec.specs.Super.{Spells, Fits};
 ghost use Rattle.super_codec.specs.declared.superblock.Superblock.{Superblock};
 ghost use Rattle.file_model.specs.Groups.{HasLinks};
 ghost use Rattle.file_model.specs.Holds.{GroupAt, FullLinks, HoldsFull, super_bytes_of, founds, blocks_in, ks_of};
-ghost use Rattle.file_model.specs.Limits.{IsWithinLimits, IsSmallHeap};
+ghost use Rattle.file_model.specs.Limits.{IsWithinLimits, IsSmallHeap, most_objects};
 ghost use Rattle.file_model.specs.Laws.{all_blocks};
 ghost use Rattle.object_model.specs.Tree.{Group};
 ghost use Rattle.file_model.specs.RefusedTree.{IsFileRefused, super_block};
@@ -59,22 +59,13 @@ fn read_superblock<V: Space>(alloc: Global, blocks: &mut Blocks<V>) -> Result<Su
         Err(stop) => return Err(stop),
     };
     match read_super(&bytes) {
-        Ok(superblock) => {
-            match blocks.adopt(0, super_len(superblock.version), BlockKind::Super) {
-                Ok(()) => Ok(superblock),
-                Err(stop) => Err(stop),
-            }
-        }
+        Ok(superblock) => match blocks.adopt(0, superblock.byte_len(), BlockKind::Super) {
+            Ok(()) => Ok(superblock),
+            Err(stop) => Err(stop),
+        },
         Err(SuperStop::NotThis) => Err(Stop::malformed(0, BlockKind::Super)),
         Err(SuperStop::Unsupported { what }) => Err(Stop::unsupported(what)),
     }
-}
-
-// How many bytes a superblock of this version has.
-fn super_len(version: u8) -> u64
-    ensures { result ≡ super_len version }
-{
-    if version == 1 { 100 } else { 96 }
 }
 
 // Reads the root group of a superblock, whose block is the only one so far, and all below it.
@@ -124,7 +115,7 @@ fn open_below<V: Space>(
     requires root { IsSoundNode root }
     requires group { table_of root ≡ Some table }
     ensures superblock { IfOk result (λ kept. superblock_of kept ≡ superblock) }
-    ensures few { IfOk result (λ kept. object_count kept ≤ 65536) }
+    ensures few { IfOk result (λ kept. object_count kept ≤ most_objects) }
     ensures opened { IfOk result (λ kept. (kls : KeyedLinks) × HasRoot kept root kls × (IsTrue V.tells
         → (met : List Block) → Keeps V.view blocks.old met → (index : List Block) × (ls : FullLinks)
         × HasLinks (array_of V.view blocks.old) (ks_of superblock) table.tree_at table.heap_at (founds ls) index

@@ -4,7 +4,7 @@ ghost use Rattle.outside.specs.Causes.{OneRose};
 ghost use Rattle.block_space.specs.Blocks.{Keeps, Refuses, array_of, space_of};
 ghost use Rattle.file_model.specs.Groups.{Header, HasLinks};
 ghost use Rattle.file_model.specs.Holds.{Full, FullLinks, founds, blocks_of, blocks_in};
-ghost use Rattle.file_model.specs.Limits.{IsSmallHeap};
+ghost use Rattle.file_model.specs.Limits.{IsSmallHeap, most_objects};
 ghost use Rattle.file_model.specs.RefusedTree.{IsTargetRefused, AreLinksRefused, IsObjectRefused};
 ghost use Rattle.group_reader.specs.Links.{target_of, found_of};
 ghost use Rattle.object_model.specs.Tree.{AreOrdered};
@@ -36,13 +36,13 @@ fn open_object<V: Space>(
     requires listed { (met : List Block) × Keeps V.view blocks.old met }
     requires lacks { LacksLink opening.old.tree place.group name }
     requires ordered { LinksAscend opening.old.tree place.group.key }
-    requires few { object_count opening.old.tree ≤ 65536 }
+    requires few { object_count opening.old.tree ≤ most_objects }
     requires sound { HasSoundNodes opening.old.tree }
     ensures opened { OnOk result ((t : Keyed) × Adds opening.old.tree opening.new.tree place.group.key name t
         × (IsTrue V.tells → (met : List Block) → Keeps V.view blocks.old met → (u : Full)
         × IsOpenedAt (array_of V.view blocks.old) place.ks place.levels (Header at) t u
         × Keeps V.view blocks.new (met ++ blocks_of u))) }
-    ensures few { OnOk result (object_count opening.new.tree ≤ 65536) }
+    ensures few { OnOk result (object_count opening.new.tree ≤ most_objects) }
     ensures sound { OnOk result (HasSoundNodes opening.new.tree) }
     ensures refused { IsTrue V.tells → IfErr result (Refuses V.view blocks.old (λ e met.
         IsObjectRefused (array_of V.view blocks.old) e place.ks place.levels (object_count opening.old.tree) met at)) }
@@ -89,13 +89,13 @@ fn open_link<V: Space>(
     requires listed { (met : List Block) × Keeps V.view blocks.old met }
     requires lacks { LacksLink opening.old.tree place.group link.name }
     requires ordered { LinksAscend opening.old.tree place.group.key }
-    requires few { object_count opening.old.tree ≤ 65536 }
+    requires few { object_count opening.old.tree ≤ most_objects }
     requires sound { HasSoundNodes opening.old.tree }
     ensures opened { OnOk result ((t : Keyed) × Adds opening.old.tree opening.new.tree place.group.key link.name t
         × (IsTrue V.tells → (met : List Block) → Keeps V.view blocks.old met → (u : Full)
         × IsOpenedAt (array_of V.view blocks.old) place.ks place.levels (target_of link.target) t u
         × Keeps V.view blocks.new (met ++ blocks_of u))) }
-    ensures few { OnOk result (object_count opening.new.tree ≤ 65536) }
+    ensures few { OnOk result (object_count opening.new.tree ≤ most_objects) }
     ensures sound { OnOk result (HasSoundNodes opening.new.tree) }
     ensures refused { IsTrue V.tells → IfErr result (Refuses V.view blocks.old (λ e met. IsTargetRefused
         (IsObjectRefused (array_of V.view blocks.old) e place.ks place.levels) (object_count opening.old.tree) met
@@ -131,7 +131,7 @@ fn open_each<V: Space>(
     requires stands { V.Stands (space_of blocks.old) }
     requires listed { (met : List Block) × Keeps V.view blocks.old met }
     requires bare { IsBareGroup opening.old.tree place.group.key }
-    requires few { object_count opening.old.tree ≤ 65536 }
+    requires few { object_count opening.old.tree ≤ most_objects }
     requires sound { HasSoundNodes opening.old.tree }
     requires ordered { AreOrdered (map (λ l. l.name) links.items) }
     ensures opened { OnOk result ((kls : KeyedLinks)
@@ -139,7 +139,7 @@ fn open_each<V: Space>(
         × (IsTrue V.tells → (met : List Block) → Keeps V.view blocks.old met → (ls : FullLinks)
         × AreOpened (array_of V.view blocks.old) place.ks place.levels kls ls
         × (founds ls ≡ map found_of links.items) × Keeps V.view blocks.new (met ++ blocks_in ls))) }
-    ensures few { OnOk result (object_count opening.new.tree ≤ 65536) }
+    ensures few { OnOk result (object_count opening.new.tree ≤ most_objects) }
     ensures sound { OnOk result (HasSoundNodes opening.new.tree) }
     ensures refused { IsTrue V.tells → IfErr result (Refuses V.view blocks.old (λ e met. AreLinksRefused
         (IsObjectRefused (array_of V.view blocks.old) e place.ks place.levels) (array_of V.view blocks.old) place.ks
@@ -170,7 +170,7 @@ pub(crate) fn open_links<V: Space>(
     requires stands { V.Stands (space_of blocks.old) }
     requires listed { (met : List Block) × Keeps V.view blocks.old met }
     requires bare { IsBareGroup opening.old.tree place.group.key }
-    requires few { object_count opening.old.tree ≤ 65536 }
+    requires few { object_count opening.old.tree ≤ most_objects }
     requires sound { HasSoundNodes opening.old.tree }
     ensures opened { OnOk result ((kls : KeyedLinks)
         × Grows opening.old.tree opening.new.tree place.group.key kls
@@ -179,7 +179,7 @@ pub(crate) fn open_links<V: Space>(
         × IsSmallHeap (array_of V.view blocks.old) table.heap_at
         × AreOpened (array_of V.view blocks.old) place.ks place.levels kls ls
         × Keeps V.view blocks.new (met ++ (index ++ blocks_in ls)))) }
-    ensures few { OnOk result (object_count opening.new.tree ≤ 65536) }
+    ensures few { OnOk result (object_count opening.new.tree ≤ most_objects) }
     ensures sound { OnOk result (HasSoundNodes opening.new.tree) }
     ensures refused { IsTrue V.tells → IfErr result (Refuses V.view blocks.old (λ e met. IsGroupRefused
         (array_of V.view blocks.old) e place.ks place.levels (object_count opening.old.tree) met table.tree_at

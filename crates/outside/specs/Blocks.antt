@@ -56,10 +56,6 @@ pub record AreKept (e : Bounds) (blocks : List Block) : Type 0 where
 abbrev pub placed : ℕ → ℕ → List Block
 placed start len = if len == 0 then [] else (record { start = start; len = len } ∷ [])
 
--- no address
-abbrev pub undefined : ℕ
-undefined = 0xFFFF_FFFF_FFFF_FFFF
-
 -- the two arrays have the same bytes in the blocks
 abbrev pub Agree : Array → Array → List Block → Type 0
 Agree b c [] = Unit {0}

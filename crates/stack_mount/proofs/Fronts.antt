@@ -7,7 +7,8 @@ use Rattle.super_codec.specs.declared.superblock.Superblock.{Superblock}
 use Rattle.super_codec.specs.declared.superblock.SuperStop.{SuperStop}
 use Rattle.file_model.specs.Holds.{super_bytes_of}
 use Rattle.file_model.specs.Laws.{one_region}
-use Rattle.stack_mount.specs.Mounted.{IsRefused, ShortFile, IsAdmitted, LacksSuper, of_super}
+use Rattle.file_model.specs.RefusedTree.{of_super}
+use Rattle.stack_mount.specs.Mounted.{IsRefused, ShortFile, IsAdmitted, LacksSuper}
 use Rattle.h5_base.specs.declared.refusal.Refusal.{Refusal}
 use Rattle.h5_base.specs.declared.refusal.Refusal.TheVariants as why
 

@@ -1,26 +1,19 @@
 -- When a file is mounted, and why not, by its bytes and where they end; and what judging it leaves of its store.
 -- Cited by `mount`, and by its callers.
 use Rattle.std.specs.Prelude.{◌≡◌, ◌≢◌, ℕ, ◌<◌, ◌≤◌, Bool, IsTrue, Result, Ok, Err}
-use Rattle.h5_base.specs.declared.BlockKind.TheVariants as block_kind
 use Rattle.outside.specs.Array.{Array}
 use Rattle.outside.specs.Files.{Files, Snapshot}
 use Rattle.outside.specs.Store.{View, Goes, GoesOver}
 use Rattle.super_codec.specs.Super.{Spells, stop_of}
 use Rattle.super_codec.specs.declared.superblock.Superblock.{Superblock}
-use Rattle.super_codec.specs.declared.superblock.SuperStop.{SuperStop}
-use Rattle.super_codec.specs.declared.superblock.SuperStop.TheVariants as stop
 use Rattle.file_model.specs.Holds.{super_bytes_of}
 use Rattle.file_model.specs.Laws.{one_region}
+use Rattle.file_model.specs.RefusedTree.{of_super}
 use Rattle.plain_space.specs.Plain.{store_of}
 use Rattle.plain_space.specs.declared.space.PlainSpace.{PlainSpace}
 use Rattle.h5_base.specs.declared.refusal.Refusal.{Refusal}
 use Rattle.h5_base.specs.declared.refusal.Refusal.TheVariants as why
 use Rattle.stack_mount.specs.declared.faults.MountRefused.{MountRefused}
-
--- why bytes that spell no superblock are refused
-abbrev pub of_super : SuperStop → Refusal
-of_super stop.NotThis = why.Malformed 0 block_kind.Super
-of_super (stop.Unsupported what) = why.Unsupported what
 
 -- the bytes spell no superblock below the end, and this is the refusal
 pub record LacksSuper (b : Array) (end : ℕ) (reason : Refusal) : Type 0 where

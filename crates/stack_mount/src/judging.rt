@@ -4,8 +4,9 @@ ghost use Rattle.outside.specs.Causes.{OneRose};
 ghost use Rattle.super_codec.specs.Super.{Spells};
 ghost use Rattle.file_model.specs.Holds.{super_bytes_of};
 ghost use Rattle.file_model.specs.Laws.{one_region};
+ghost use Rattle.file_model.specs.RefusedTree.{of_super};
 ghost use Rattle.h5_base.specs.declared.refusal.Refusal.{Refusal};
-ghost use Rattle.stack_mount.specs.Mounted.{IsRefused, IsAdmitted, LacksSuper, of_super};
+ghost use Rattle.stack_mount.specs.Mounted.{IsRefused, IsAdmitted, LacksSuper};
 
 use h5_base::{BlockKind, MemClass, Refusal, Stop};
 use outside::{Failed, Space};

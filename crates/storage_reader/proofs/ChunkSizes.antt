@@ -2,20 +2,14 @@
 use Rattle.std.proofs.Common.{◌≡◌, ℕ, zero, suc, ◌*◌, ◌%◌, ◌^◌, ◌<◌, ◌≤◌, List, [], ◌∷◌, length, take, get_or, refl, subst, ap, arith}
 use Rattle.dtype.specs.Products.{product, FitsFile}
 use Rattle.header_codec.specs.Layouts.{IsChunk}
-use Rattle.header_codec.specs.Layouts.{product as sizes_product}
 use Rattle.header_codec.proofs.SizeLaws.{product-some}
 use Rattle.file_model.specs.Chunks.{AreMultiples}
 
--- the product of a chunk's sizes is that of a dataset's
-pub same_product : (ns : List ℕ) → sizes_product ns ≡ product ns
-same_product [] = refl
-same_product (n ∷ ns) = ap (λ m. n * m) (same_product ns)
-
 pub few_bytes : (ns : List ℕ) → IsChunk ns → product ns < 2 ^ 32
-few_bytes ns h = subst (λ m. m < 2 ^ 32) (same_product ns) h.bytes
+few_bytes ns h = h.bytes
 
 pub some_bytes : (ns : List ℕ) → IsChunk ns → 0 < product ns
-some_bytes ns h = omega (arith, product-some ns h.some, same_product ns)
+some_bytes ns h = product-some ns h.some
 
 pub chunk_fits : (ns : List ℕ) → IsChunk ns → FitsFile ns 1
 chunk_fits ns h = omega (arith, few_bytes ns h)

@@ -1,7 +1,8 @@
 -- What is stored of a dataset, by what its layout tells.
 use Rattle.std.proofs.Common.{◌≡◌, ◌≢◌, ℕ, ◌*◌, ◌==◌, Bool, true, false, not, ◌&&◌, List, [], length, if◌then◌else◌, refl, sym, ◌∙◌, ap, subst, arith, inl, inr}
+use Rattle.h5_base.specs.Fields.{undefined}
 use Rattle.outside.specs.Array.{Array}
-use Rattle.outside.specs.Blocks.{Block, Bounds, IsPlacedRefused, placed, undefined}
+use Rattle.outside.specs.Blocks.{Block, Bounds, IsPlacedRefused, placed}
 use Rattle.h5_base.specs.declared.kinds.BlockKind.TheVariants.{Raw}
 use Rattle.h5_base.specs.declared.refusal.Refusal.{Refusal}
 use Rattle.dtype.specs.Products.{product}
@@ -22,11 +23,6 @@ use Rattle.storage_reader.specs.declared.storage.Elements.{Elements}
 -- the bytes of the elements
 abbrev elements_len : Elements → ℕ
 elements_len x = product x.shape.now.dims * size_of x.elem
-
--- a layout that a message spells can be read: what a caller shows of `adopt_storage`
-pub spelled_layout : (l : Layout) (b : List ℕ) → SpellsLayout l b → IsLayout l
-spelled_layout l b (inl h) = subst IsLayout (sym h.1) tt
-spelled_layout l b (inr h) = subst IsLayout (sym h.1) h.0.chunk
 
 -- a chunk has the dimensions of its dataset
 pub rank_of : (f : Form) (tree size : ℕ) (sizes dims : List ℕ) (l : Layout) → IsForm f → f.sizes ≡ sizes → l ≡ layout.Chunked tree sizes → IsOfShape (length dims) size l → f.rank ≡ length dims

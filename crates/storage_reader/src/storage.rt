@@ -1,6 +1,7 @@
 ghost use Rattle.std.specs.Prelude.{◌≡◌, ◌≢◌, ◌&&◌, not, ◌==◌, ◌*◌, [], if◌then◌else◌, List};
 ghost use Rattle.std.specs.Prelude.{IsTrue, IfErr, OnOk, IsErrOf, length};
-ghost use Rattle.outside.specs.Blocks.{Block, IsPlacedRefused, placed, undefined};
+ghost use Rattle.h5_base.specs.Fields.{undefined};
+ghost use Rattle.outside.specs.Blocks.{Block, IsPlacedRefused, placed};
 ghost use Rattle.outside.specs.Causes.{OneRose};
 ghost use Rattle.h5_base.specs.declared.kinds.BlockKind.TheVariants.{Raw};
 ghost use Rattle.dtype.specs.Products.{FitsFile, product};

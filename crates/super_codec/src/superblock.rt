@@ -1,4 +1,5 @@
 ghost use Rattle.std.specs.Prelude.{◌≡◌};
+ghost use Rattle.super_codec.specs.Super.{super_len};
 
 use h5_base::What;
 use thiserror::Error;
@@ -38,6 +39,13 @@ pub struct KValues {
 }
 
 impl Superblock {
+    /// How many bytes it has (II.A).
+    pub fn byte_len(&self) -> u64
+        ensures { result ≡ super_len self.now.version }
+    {
+        if self.version == 1 { 100 } else { 96 }
+    }
+
     /// The K values of its file.
     pub fn k_values(&self) -> KValues
         ensures { result ≡ record { leaf = self.now.leaf_k; internal = self.now.internal_k; chunk = self.now.chunk_k } }

@@ -10,14 +10,9 @@ use Rattle.std.proofs.lemmas.Map.Text.{is_eq-slice_cmp}
 use Rattle.std.proofs.lemmas.List.Sums.{prefix_len_is}
 use Rattle.object_model.specs.Tree.{Name, name_lt, same_name, AreOrdered}
 use Rattle.object_model.proofs.TreeLemmas.{same_or_not}
-use Rattle.object_model.proofs.OrderLemmas.{lt_trans, lt_other}
+use Rattle.object_model.proofs.OrderLemmas.{less_is, lt_trans, lt_other}
 use Rattle.tree_nodes.specs.declared.node.ChildLink.{ChildLink}
 use Rattle.tree_nodes.specs.Nodes.{child_link, link_names, find_link, insert_link, remove_link, place_in}
-
-less_is : (o : Ordering) → is_lt o ≡ true → o ≡ Less
-less_is Less h = refl
-less_is Equal h = cc
-less_is Greater h = cc
 
 -- a name that comes before another is not the same
 pub lt_apart : (a b : Name) → name_lt a b ≡ true → a ≢ b

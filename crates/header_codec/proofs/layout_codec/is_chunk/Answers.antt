@@ -1,6 +1,6 @@
 use Rattle.std.proofs.Common.{◌≡◌, ℕ, suc, ◌≤◌, ◌<◌, ◌*◌, ◌+◌, ◌^◌, take, get_or, sym, ap, ◌∙◌, arith, rules, add-one, below_more}
 use Rattle.std.proofs.lemmas.List.{get_or_default}
-use Rattle.header_codec.specs.Layouts.{product}
+use Rattle.dtype.specs.Products.{product}
 use Rattle.header_codec.proofs.SizeLaws.{product-more, product-take}
 use Rattle.header_codec.proofs.layout_codec.is_chunk.Goals as goal
 

@@ -1,5 +1,5 @@
 use Rattle.std.proofs.Common.{◌≡◌, ℕ, ◌≤◌, ◌<◌, ◌^◌, take, get_or}
-use Rattle.header_codec.specs.Layouts.{product}
+use Rattle.dtype.specs.Products.{product}
 use Rattle.header_codec.proofs.layout_codec.is_chunk.Given as goal
 
 abbrev pub invariant-loop-size : goal.invariant-loop-size

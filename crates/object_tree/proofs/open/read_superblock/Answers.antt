@@ -12,7 +12,7 @@ returns-in-Ok-adopt-clause-found g c = λ told.
     subst (Spells c.in-Ok-read_super.superblock) same c.in-Ok-read_super.ensures.found
 
 pub returns-in-Ok-adopt-clause-taken : goal.returns-in-Ok-adopt-clause-taken
-returns-in-Ok-adopt-clause-taken g c = rw c.super_len.ensures at (c.in-Ok-adopt.ensures.found [] (c.in-Ok.ensures.kept [] c.requires.empty))
+returns-in-Ok-adopt-clause-taken g c = rw c.byte_len.ensures at (c.in-Ok-adopt.ensures.found [] (c.in-Ok.ensures.kept [] c.requires.empty))
 
 pub returns-in-Ok-adopt-clause-alike : goal.returns-in-Ok-adopt-clause-alike
 returns-in-Ok-adopt-clause-alike g c = subst (g.V.Kept.Alike (space_of c.args.blocks.now)) (sym c.adopt.ensures.space) c.in-Ok.ensures.alike
@@ -23,7 +23,7 @@ returns-in-Ok-read_super-clause-alike g c = subst (g.V.Kept.Alike (space_of c.ar
 pub returns-in-Ok-read_super-clause-refused : goal.returns-in-Ok-read_super-clause-refused
 returns-in-Ok-read_super-clause-refused g c = λ told.
     let same = super_read g.V.Space.view (space_of c.args.blocks.now) c.space.result.now c.deref.result.now c.in-Ok.bytes.items _ c.end.result c.space.ensures c.end.ensures c.min-len.ensures (c.in-Ok.ensures.bytes told) c.deref.ensures.value in
-    super_refused_at (g.V.Space.view (space_of c.args.blocks.now)) _ c.in-Ok-read_super.superblock c.in-Err-adopt.stop c.super_len.result (g.met.V.Space.alike _ _ c.in-Ok.ensures.alike) c.super_len.ensures c.requires.first (subst (Spells c.in-Ok-read_super.superblock) same c.in-Ok-read_super.ensures.found)
+    super_refused_at (g.V.Space.view (space_of c.args.blocks.now)) _ c.in-Ok-read_super.superblock c.in-Err-adopt.stop c.byte_len.result (g.met.V.Space.alike _ _ c.in-Ok.ensures.alike) c.byte_len.ensures c.requires.first (subst (Spells c.in-Ok-read_super.superblock) same c.in-Ok-read_super.ensures.found)
     (c.in-Err-adopt.ensures.refused [] None (c.in-Ok.ensures.kept [] c.requires.empty))
 
 pub returns-in-Err-NotThis-clause-refused : goal.returns-in-Err-NotThis-clause-refused

@@ -1,5 +1,6 @@
 use Rattle.std.proofs.Common.{◌≡◌, refl, subst}
-use Rattle.stack_mount.specs.Mounted.{LacksSuper, of_super}
+use Rattle.file_model.specs.RefusedTree.{of_super}
+use Rattle.stack_mount.specs.Mounted.{LacksSuper}
 use Rattle.stack_mount.proofs.Fronts.{front_read, spelled_front, lacking_front}
 use Rattle.stack_mount.proofs.judging.read_front.Goals as goal
 

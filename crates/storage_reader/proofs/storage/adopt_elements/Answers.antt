@@ -1,9 +1,9 @@
 use Rattle.std.proofs.Common.{◌≡◌, ◌==◌, ◌*◌, false, arith, refl, rules}
 use Rattle.std.proofs.lemmas.Bool.Decides.{nat_tests}
 use Rattle.std.proofs.lemmas.Result.{on_ok_weaker}
+use Rattle.h5_base.specs.Fields.{undefined}
 use Rattle.dtype.specs.Products.{product}
 use Rattle.dtype.specs.Types.{size_of}
-use Rattle.outside.specs.Blocks.{undefined}
 use Rattle.storage_reader.proofs.storage.adopt_elements.Goals as goal
 
 pub returns-clause-found : goal.returns-clause-found
