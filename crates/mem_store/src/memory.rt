@@ -320,7 +320,8 @@ impl Store for MemStore {
 
     ghost past = { λ _ _. ⊥ };
 
-    ghost ids_stand = { λ m. let h = held m in ids_stand h.ids h.calls true (file_of h.ids.names h.contents) m.sound };
+    ghost ids_stand = { λ m. let h = held m in
+        ids_stand h.ids h.calls true (file_of h.ids.names h.contents) m.sound };
 
     ghost reads_now = { λ told. absurd (false≢true told) };
 
