@@ -1,7 +1,7 @@
 -- A table that is filled file by file shows the first file of each name.
 use Rattle.std.proofs.Common.{◌≡◌, ◌≢◌, ℕ, suc, ◌<◌, ◌⊎◌, inl, inr, List, [], ◌∷◌, ◌++◌, length, map, get_or, refl, sym, ◌∙◌, ap, subst, arith, length-append}
 use Rattle.std.proofs.lemmas.Bool.{cases_lt}
-use Rattle.std.proofs.lemmas.List.{get_or_past, get_or_append_left, get_or_push, map-append}
+use Rattle.std.proofs.lemmas.List.{get_or_past, get_or_append_left, get_or_push, map-append, append-nil}
 use Rattle.file_ids.specs.Ids.{place_of}
 use Rattle.file_ids.proofs.PlaceLemmas.{bytes_same, place_of-le, place_of-append_left, place_of-append_new}
 use Rattle.mem_store.specs.declared.given.NamedBytes.{NamedBytes}
@@ -74,6 +74,11 @@ file_empty q m ns cs size = elim (cases_lt (place_of q ns) (length ns)) [
         | inr other ↦ file_none q m [] ns cs size absent other ∙ sym (file_past q ns cs size absent)
       ]
 ]
+
+-- no file is left to be given
+pub all_given : (files ys left : List NamedBytes) (len : ℕ) → files ≡ ys ++ left → len ≡ length left → len ≡ 0 → ys ≡ files
+all_given files ys [] len is size none = sym (is ∙ append-nil ys)
+all_given files ys (x ∷ xs) len is size none = absurd (omega (arith, size, none))
 
 -- the table shows the first file of each name among these
 pub record Shows (ns cs gs ds : List (List ℕ)) : Type 0 where

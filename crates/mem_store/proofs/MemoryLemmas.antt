@@ -8,10 +8,12 @@ use Rattle.outside.specs.declared.store.FileStop.TheVariants.{NoMemory, Failed}
 use Rattle.outside.specs.Store.{Gives, SameIds, Calls}
 use Rattle.file_ids.specs.Ids.{place_of, counts_of}
 use Rattle.file_ids.proofs.PlaceLemmas.{place_of-le, last_default}
+use Rattle.mem_store.specs.declared.given.Fail.{Fail}
+use Rattle.mem_store.specs.declared.given.Room.{Room}
 use Rattle.mem_store.specs.declared.table.Entry.{Entry}
 use Rattle.mem_store.specs.declared.memory.MemStore.{MemStore}
 use Rattle.mem_store.specs.Table.{lens_of, no_calls}
-use Rattle.mem_store.specs.Held.{Held, IsSound, IsNew, view, asked, with_new, after_file_fault}
+use Rattle.mem_store.specs.Held.{Held, IsSound, IsNew, nothing, view, asked, with_new, after_file_fault}
 use Rattle.mem_store.specs.Memory.{held}
 use Rattle.mem_store.proofs.CutLemmas.{length-cut}
 use Rattle.mem_store.proofs.ViewLemmas.{gives, same_ids, file_call_ok, file_call_failed, file_call_none}
@@ -24,6 +26,13 @@ sound m = record {
 
 pub has_content : (m : MemStore) (i : ℕ) → i < length (held m).ids.names → i < length (held m).contents
 has_content m i lt = omega (arith, (sound m).each)
+
+pub IsNew-nothing : (fails : List Fail) (room : Room) → IsNew (nothing fails room)
+IsNew-nothing fails room = record { faults = faults; made = λ i. refl; calls = refl; written = refl }
+  where
+    faults : (k : Option ℕ) → counts_of 0 [] k ≡ 0
+    faults None = refl
+    faults (Some i) = refl
 
 -- a file that is given at first
 pub IsNew-more : (name bytes : List ℕ) (h : Held) → IsNew h → IsNew (with_new name bytes h)

@@ -5,7 +5,7 @@ use Rattle.std.specs.Prelude.{slice_index_or, true, Option, Any, Result, IsErr, 
 use Rattle.std.specs.List.{sum_by}
 use Rattle.outside.specs.Files.{Files, written, resized}
 use Rattle.outside.specs.Store.{View}
-use Rattle.file_ids.specs.Ids.{Ids, AreSound, place_of, one_more, struck, struck_own, added, counts_of, told}
+use Rattle.file_ids.specs.Ids.{Ids, AreSound, no_ids, place_of, one_more, struck, struck_own, added, counts_of, told}
 use Rattle.mem_store.specs.declared.given.Fail.{Fail}
 use Rattle.mem_store.specs.declared.given.NamedBytes.{NamedBytes}
 use Rattle.mem_store.specs.declared.given.Room.{Room}
@@ -24,6 +24,18 @@ pub record Held : Type 0 where
   pub written : ℕ
   pub fails : List Fail
   pub room : Room
+
+-- no file and no call yet
+abbrev pub nothing : List Fail → Room → Held
+nothing fails room = record {
+  ids = no_ids;
+  contents = [];
+  tallies = [];
+  calls = 0;
+  written = 0;
+  fails = fails;
+  room = room;
+}
 
 -- its ids are sound, and each has its file
 pub record IsSound (h : Held) : Type 0 where

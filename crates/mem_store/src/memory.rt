@@ -48,14 +48,13 @@ impl MemStore {
     ghost use Rattle.mem_store.specs.Memory.{held};
     ghost use Rattle.mem_store.specs.Held.{IsListed, IsLate, IsFull, counted, with_fault, after_fault, after_write};
     ghost use Rattle.mem_store.specs.Held.{after_set_len, asked, after_file_fault, with_new, content, Looks, Changes};
-    ghost use Rattle.mem_store.specs.Held.{IsNew, view, faults_at, calls_at};
+    ghost use Rattle.mem_store.specs.Held.{IsNew, nothing, view, faults_at, calls_at};
     ghost use Rattle.std.specs.List.{sum_by};
     ghost use Rattle.std.specs.Prelude.{true, false, None, Option};
     ghost use Rattle.mem_store.specs.Table.{lens_of};
 
     /// A store with these files, of two with one name the first, of which the calls listed fail, and those past the
     /// room.
-    #[tactic(auto, unfolding(file_ids::specs::Ids::told))]
     pub fn new(
         alloc: Global,
         files: Vec<NamedBytes>,
@@ -69,15 +68,7 @@ impl MemStore {
         ensures fails { IfOk result (λ m. (held m).fails ≡ fails.items) }
         ensures room { IfOk result (λ m. (held m).room ≡ room) }
     {
-        let mut store = MemStore {
-            alloc,
-            ids: FileIds::new(alloc),
-            table: Table::new(alloc, room.bytes as usize)?,
-            calls: 0,
-            written: 0,
-            fails,
-            room,
-        };
+        let mut store = MemStore::empty(alloc, fails, room)?;
         for file in files {
             match store.ids.find(&file.name) {
                 Some(_) => {}
@@ -87,6 +78,24 @@ impl MemStore {
             }
         }
         Ok(store)
+    }
+
+    // A store with no files yet.
+    fn empty(alloc: Global, fails: Vec<Fail>, room: Room) -> Result<MemStore, NoMemory>
+        ensures { IfOk result (λ m. held m ≡ nothing fails.items room) }
+    {
+        let Ok(table) = Table::new(alloc, room.bytes as usize) else {
+            return Err(NoMemory);
+        };
+        Ok(MemStore {
+            alloc,
+            ids: FileIds::new(alloc),
+            table,
+            calls: 0,
+            written: 0,
+            fails,
+            room,
+        })
     }
 
     // One file more, with these bytes, and its id.
@@ -311,7 +320,8 @@ impl Store for MemStore {
 
     ghost past = { λ _ _. ⊥ };
 
-    ghost ids_stand = { λ m. let h = held m in ids_stand h.ids h.calls true (file_of h.ids.names h.contents) m.sound };
+    ghost ids_stand = { λ m. let h = held m in
+        ids_stand h.ids h.calls true (file_of h.ids.names h.contents) m.sound };
 
     ghost reads_now = { λ told. absurd (false≢true told) };
 

@@ -1,5 +1,5 @@
-ghost use Rattle.std.specs.Prelude.{◌≡◌, ◌⊎◌, ◌↔◌, ◌+◌, ◌<◌, ◌≤◌, ◌++◌, ◌∷◌, [], List, ℕ, length, take, not, true, false};
-ghost use Rattle.std.specs.Prelude.{IsTrue, IfOk, OnErr, IsErrOf, Ok};
+ghost use Rattle.std.specs.Prelude.{◌≡◌, ◌⊎◌, ◌↔◌, ◌+◌, ◌<◌, ◌≤◌, ◌++◌, ◌∷◌, [], List, ℕ, length, take};
+ghost use Rattle.std.specs.Prelude.{not, true, false, IsTrue, IfOk, OnErr, IsErrOf, Ok};
 ghost use Rattle.std.specs.List.{Contains};
 ghost use Rattle.outside.specs.Causes.{Rose};
 ghost use Rattle.script_lines.specs.Lines.{HasNoLf, HasReadAll, IsNext, most_kept, most_taken, spent};
