@@ -79,7 +79,8 @@ impl<V: Space> Blocks<V> {
     }
 
     /// Takes a block of at least one byte into the catalogue. After an error the catalogue is as it was. The error is
-    /// the first that applies: a block that begins there is in the catalogue (`LinkedTwice`), one shares an address with
+    /// the first that applies: a block that begins there is in the catalogue (`LinkedTwice`), one shares an address
+    /// with
     /// it (`Overlap`), it passes its region's end (`Malformed` as its kind), the catalogue has as many blocks as a file
     /// may have (`TooMany`), or want of memory.
     pub fn adopt(&mut self, start: u64, len: u64, kind: BlockKind) -> Result<(), Stop>
@@ -128,7 +129,8 @@ impl<V: Space> Blocks<V> {
         self.space.read(at, out)
     }
 
-    /// Sets the catalogue aside: from now on one without blocks is kept. So what was met before is read again as what is
+    /// Sets the catalogue aside: from now on one without blocks is kept. So what was met before is read again as what
+    /// is
     /// met for the first time.
     pub fn set_aside(&mut self, alloc: Global) -> Catalogue
         ensures empty { Keeps V.view self.new [] }

@@ -253,7 +253,8 @@ new_info space elem fill layout = record {
 
 -- what is written as a dataset's header is the header of a dataset, where its parts fit one another
 abbrev pub NewData : Type 0
-NewData = (b : Array) (at n : ℕ) (space : Shape) (elem : ElemType) (fill : Fill) (layout : Layout) (ps : List NewMessage)
+NewData = (b : Array) (at n : ℕ) (space : Shape) (elem : ElemType) (fill : Fill) (layout : Layout)
+    (ps : List NewMessage)
     → SpellsHeader (new.Dataset space elem fill layout) ps (bytes_of b at n)
     → FitsFile space.dims (size_of elem) → IsOfShape (length space.dims) (size_of elem) layout
     → IsOfSize (size_of elem) fill

@@ -304,7 +304,8 @@ impl Store for MemStore {
     ghost use Rattle.std.proofs.lemmas.Bool.{false≢true};
     ghost use Rattle.mem_store.specs.Memory.{held};
     ghost use Rattle.mem_store.specs.Held.{file_of, view as view_of};
-    ghost use Rattle.mem_store.specs.Held.{IsLate, IsKnown, asked, after_file_fault, with_new, after_write, after_set_len};
+    ghost use Rattle.mem_store.specs.Held.{IsLate, IsKnown, asked, after_file_fault, with_new, after_write};
+    ghost use Rattle.mem_store.specs.Held.{after_set_len};
     ghost use Rattle.mem_store.specs.Held.{Looks, Changes};
     ghost use Rattle.file_ids.proofs.ToldLemmas.{ids_stand};
     ghost use Rattle.std.specs.Prelude.{Some, None, IsErr, IsErrOf, OnErr};

@@ -1,5 +1,6 @@
 -- An object tree that can be looked through and shown, whatever the file's bytes are: each link leads to a node, names
--- ascend, and the parts of each dataset fit one another, with shapes of one rank up to 32. Cited by `open_tree`, and by what answers from an opened tree.
+-- ascend, and the parts of each dataset fit one another, with shapes of one rank up to 32. Cited by `open_tree`, and
+-- by what answers from an opened tree.
 use Rattle.std.specs.Prelude.{◌≡◌, ℕ, List, [], ◌∷◌, Some}
 use Rattle.super_codec.specs.Super.{Fits}
 use Rattle.header_reader.specs.Told.{IsSoundNode}

@@ -1,6 +1,7 @@
 -- A sparse array of bytes by address, and where each class of memory ends in it.
 -- Cited by whatever speaks of the bytes of an HDF5 file, whatever files they lie in.
-use Rattle.std.specs.Prelude.{◌≡◌, ◌⊎◌, ℕ, ◌+◌, ◌-◌, ◌<◌, ◌≤◌, Bool, ◌&&◌, nat_le, nat_lt, if◌then◌else◌, List, length, map, slice_index}
+use Rattle.std.specs.Prelude.{◌≡◌, ◌⊎◌, ℕ, ◌+◌, ◌-◌, ◌<◌, ◌≤◌, Bool, ◌&&◌, nat_le, nat_lt, if◌then◌else◌, List}
+use Rattle.std.specs.Prelude.{length, map, slice_index}
 use Rattle.std.specs.List.{range_with_len}
 use Rattle.h5_base.specs.declared.extent.MemClass.{MemClass}
 
@@ -22,7 +23,8 @@ is_within at n address = nat_le at address && nat_lt address (at + n)
 
 -- the array with these bytes from `at` on
 abbrev pub over : Array → ℕ → List ℕ → Array
-over array at bytes = λ address. if is_within at (length bytes) address then slice_index bytes (address - at) else array address
+over array at bytes = λ address. if is_within at (length bytes) address then slice_index bytes
+    (address - at) else array address
 
 -- two arrays have the same bytes outside n from `at` on
 abbrev pub SameOutside : ℕ → ℕ → Array → Array → Type 0

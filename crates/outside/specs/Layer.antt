@@ -1,6 +1,7 @@
 -- What a layer tells over the files of a store, and what each of its calls leaves of them.
 -- Cited by `Layer`, by each layer, and by whatever works on one.
-use Rattle.std.specs.Prelude.{◌≡◌, ◌≢◌, ◌⊎◌, ℕ, ◌+◌, ◌<◌, ◌≤◌, Bool, IsTrue, List, length, Option, Some, None, Result, OnErr, IsErrOf}
+use Rattle.std.specs.Prelude.{◌≡◌, ◌≢◌, ◌⊎◌, ℕ, ◌+◌, ◌<◌, ◌≤◌, Bool, IsTrue, List, length, Option, Some, None, Result}
+use Rattle.std.specs.Prelude.{OnErr, IsErrOf}
 use Rattle.std.specs.List.{Contains}
 use Rattle.h5_base.specs.declared.extent.MemClass.{MemClass}
 use Rattle.h5_base.specs.declared.extent.Region.{Region}

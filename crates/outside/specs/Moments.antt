@@ -26,4 +26,5 @@ pub record IsTimeOf (moment : ℕ) (text : List ℕ) : Type 0 where
   pub day : ℕ
   pub date : IsCivilDate (pos year) month day
   pub number : days_from_civil (pos year) month day ≡ pos (moment / 86400)
-  pub spelled : text ≡ four_digits year ++ two_digits month ++ two_digits day ++ (84 ∷ []) ++ clock_text (moment % 86400) ++ (90 ∷ [])
+  pub spelled : text ≡ four_digits year ++ two_digits month ++ two_digits day ++ (84 ∷ []) ++ clock_text
+      (moment % 86400) ++ (90 ∷ [])

@@ -23,7 +23,8 @@ pub data Stored : Type 0 where
   Damaged : ℕ → Stored
 
 -- What a space with revisions always tells of them: how many are committed, revision 0 among them, the size of a page,
--- where the committed bytes of the file with the revisions end, the pages of the last record, and the pages written since
+-- where the committed bytes of the file with the revisions end, the pages of the last record, and the pages written
+-- since
 -- the last commit.
 pub record Committed : Type 0 where
   pub count : ℕ
@@ -32,7 +33,8 @@ pub record Committed : Type 0 where
   pub recorded : List ℕ
   pub written : List ℕ
 
--- What it tells of them where it tells its bytes: the revisions committed so far, from 0 on, and the ends of revision 0.
+-- What it tells of them where it tells its bytes: the revisions committed so far, from 0 on, and the ends of revision
+-- 0.
 pub record History : Type 0 where
   pub revisions : List Stored
   pub origin : Ends
@@ -52,7 +54,8 @@ pub record MeetsRegion (r : Region) (page p : ℕ) : Type 0 where
 pub data Reaches (r : Region) (origin page end : ℕ) (pages : List ℕ) (n : ℕ) : Type 0 where
   Start : n ≡ r.start → Reaches r origin page end pages n
   Origin : n ≡ origin → Reaches r origin page end pages n
-  Page : (p : ℕ) → Contains pages p → MeetsRegion r page p → n ≡ min (p + page) (min r.limit end) → Reaches r origin page end pages n
+  Page : (p : ℕ) → Contains pages p → MeetsRegion r page p → n ≡ min (p + page) (min r.limit end)
+      → Reaches r origin page end pages n
 
 -- the end of a class in a revision: the greatest of these
 pub record IsEndOf (r : Region) (origin page end : ℕ) (pages : List ℕ) (n : ℕ) : Type 0 where

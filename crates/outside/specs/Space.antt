@@ -1,6 +1,8 @@
 -- What a space tells, and what each of its calls leaves of it.
 -- Cited by `Space`, by each space, and by whatever works on one.
-use Rattle.std.specs.Prelude.{◌≡◌, ◌⊎◌, ◌↔◌, ℕ, ◌+◌, ◌-◌, ◌*◌, ◌^◌, ◌<◌, ◌≤◌, ◌==◌, ◌&&◌, Bool, true, false, IsTrue, ℤ, List, [], ◌∷◌, ◌++◌, length, replicate, Option, Some, None, Result, OnOk, OnErr, IsErrOf, if◌then◌else◌}
+use Rattle.std.specs.Prelude.{◌≡◌, ◌⊎◌, ◌↔◌, ℕ, ◌+◌, ◌-◌, ◌*◌, ◌^◌, ◌<◌, ◌≤◌, ◌==◌, ◌&&◌, Bool, true, false, IsTrue}
+use Rattle.std.specs.Prelude.{ℤ, List, [], ◌∷◌, ◌++◌, length, replicate, Option, Some, None, Result, OnOk, OnErr}
+use Rattle.std.specs.Prelude.{IsErrOf, if◌then◌else◌}
 use Rattle.std.specs.List.{Contains}
 use Rattle.h5_base.specs.declared.extent.MemClass.{MemClass}
 use Rattle.h5_base.specs.declared.extent.Region.{Region}
@@ -18,7 +20,8 @@ use Rattle.outside.specs.declared.space.CommitStop.TheVariants as commit_stop
 use Rattle.outside.specs.declared.space.CommitAnswer.{CommitAnswer}
 use Rattle.outside.specs.declared.space.CommitAnswer.TheVariants as answer
 
--- What a space tells: its bytes and where each class ends, its regions, whether it can be written, the ranges that it is
+-- What a space tells: its bytes and where each class ends, its regions, whether it can be written, the ranges that it
+-- is
 -- prepared for, and, where it has revisions, how many with their pages. The bytes and the revisions themselves mean
 -- something only where it tells its bytes; all else is always told.
 pub record SpaceView : Type 0 where
@@ -56,7 +59,8 @@ pub record LiesIn (v : SpaceView) (class : MemClass) (at n : ℕ) : Type 0 where
 
 -- each of the n addresses is in one of the ranges
 abbrev pub AreCovered : List Extent → ℕ → ℕ → Type 0
-AreCovered ranges at n = (a : ℕ) → at ≤ a → a < at + n → (r : Extent) × Contains ranges r × (r.start ≤ a) × (a < r.start + r.len)
+AreCovered ranges at n = (a : ℕ) → at ≤ a → a < at + n → (r : Extent) × Contains ranges r × (r.start ≤ a)
+    × (a < r.start + r.len)
 
 -- the ranges stand in ascending order of their starts
 abbrev pub Ascend : List Extent → Type 0
@@ -67,7 +71,8 @@ Ascend (r ∷ s ∷ rs) = (r.start ≤ s.start) × Ascend (s ∷ rs)
 -- the file with the revisions stays within 2^48 bytes when the ranges are written
 abbrev pub HasRoom : Option Committed → List Extent → Type 0
 HasRoom None ranges = Unit {0}
-HasRoom (Some c) ranges = (pages : List ℕ) → ArePages (OrMetByOne c.page c.written ranges) pages → c.committed_end + c.page * length pages ≤ 2 ^ 48
+HasRoom (Some c) ranges = (pages : List ℕ) → ArePages (OrMetByOne c.page c.written ranges) pages
+    → c.committed_end + c.page * length pages ≤ 2 ^ 48
 
 -- A write or a raise may be done.
 pub record IsReady (v : SpaceView) (at n : ℕ) : Type 0 where
@@ -132,7 +137,8 @@ pub record CommitCauses {T : Type 0} (before now copy_before copy_now : Counts) 
 -- A commit passes a limit: 65,535 revisions, or 2^48 bytes, when the ranges are written before it.
 pub data PassesLimit (c : Committed) (ranges : List Extent) (comment : List ℕ) : Type 0 where
   Count : 65536 ≤ c.count → PassesLimit c ranges comment
-  Bytes : (written recorded : List ℕ) → ArePages (OrMetByOne c.page c.written ranges) written → ArePages (OfEither c.recorded written) recorded
+  Bytes : (written recorded : List ℕ) → ArePages (OrMetByOne c.page c.written ranges) written
+      → ArePages (OfEither c.recorded written) recorded
       → 2 ^ 48 < end_after c (length written) (length recorded) (length comment) → PassesLimit c ranges comment
 
 -- Why a commit after writes in the ranges is refused: the first reason in this order, or none.

@@ -1,6 +1,7 @@
 -- What a store tells, and what each of its calls leaves of it.
 -- Cited by `Store`, by each store, and by every function that works on one.
-use Rattle.std.specs.Prelude.{◌≡◌, ◌≢◌, ◌⊎◌, ℕ, ◌+◌, ◌<◌, ◌≤◌, Bool, IsTrue, List, [], ◌∷◌, ◌++◌, length, slice_index, Option, Some, None}
+use Rattle.std.specs.Prelude.{◌≡◌, ◌≢◌, ◌⊎◌, ℕ, ◌+◌, ◌<◌, ◌≤◌, Bool, IsTrue, List, [], ◌∷◌, ◌++◌, length, slice_index}
+use Rattle.std.specs.Prelude.{Option, Some, None}
 use Rattle.std.specs.List.{sum_by}
 use Rattle.outside.specs.Causes.{Rose}
 use Rattle.outside.specs.Files.{Files, Snapshot}
@@ -27,11 +28,13 @@ faults v = v.counts None + sum_by (λ i. v.counts (Some i)) v.ids
 pub record AreIds (v : View) : Type 0 where
   pub differ : (j k : ℕ) → j < length v.ids → k < length v.ids → slice_index v.ids j ≡ slice_index v.ids k → j ≡ k
   pub named : (k : ℕ) → k < length v.ids → 0 < length (v.names (slice_index v.ids k))
-  pub others : (i : ℕ) → ((k : ℕ) → k < length v.ids → slice_index v.ids k ≢ i) → (v.names i ≡ []) × (v.counts (Some i) ≡ 0)
+  pub others : (i : ℕ) → ((k : ℕ) → k < length v.ids → slice_index v.ids k ≢ i) → (v.names i ≡ [])
+      × (v.counts (Some i) ≡ 0)
 
 -- The common part of each call. `own` is the count that it may raise, `Failed` that it answers a fault,
 -- `Changed` holds of the file that it may change.
-pub record Calls (tells : Bool) (own : Option ℕ) (Failed : Type 0) (Changed : List ℕ → Type 0) (old new : View) : Type 0 where
+pub record Calls (tells : Bool) (own : Option ℕ) (Failed : Type 0) (Changed : List ℕ
+    → Type 0) (old new : View) : Type 0 where
   pub later : (k : Option ℕ) → old.counts k ≤ new.counts k
   pub failed : Failed → Rose (old.counts own) (new.counts own)
   pub counts : (k : Option ℕ) → k ≢ own → new.counts k ≡ old.counts k
@@ -70,7 +73,8 @@ pub record IsNow (now : View) (leaves : Files → Type 0) (snapshot : Snapshot) 
   pub image : leaves snapshot.image
 
 -- Time goes on: the snapshots so far stay, and at most those of the new moment join them, with these readings.
-pub record Passes (readings : List Files) (now : View) (leaves : Files → Type 0) (past new_past : Snapshot → Type 0) : Type 0 where
+pub record Passes (readings : List Files) (now : View) (leaves : Files → Type 0) (past new_past : Snapshot
+    → Type 0) : Type 0 where
   pub keeps : (s : Snapshot) → past s → new_past s
   pub nothing_else : (s : Snapshot) → new_past s → past s ⊎ (IsNow now leaves s × (s.readings ≡ readings))
 
@@ -80,7 +84,8 @@ Agrees Changed d c = (q : List ℕ) → (Changed q → ⊥) → c q ≡ d q
 
 -- What a run of calls keeps of images: each image now, and each snapshot since, is one of those that could be
 -- left at first, but for the changed files. Each call has it, and it composes.
-pub record GoesOver (Changed : List ℕ → Type 0) (leaves new_leaves : Files → Type 0) (past new_past : Snapshot → Type 0) : Type 0 where
+pub record GoesOver (Changed : List ℕ → Type 0) (leaves new_leaves : Files → Type 0) (past new_past : Snapshot
+    → Type 0) : Type 0 where
   pub now : (c : Files) → new_leaves c → (d : Files) × leaves d × Agrees Changed d c
   pub since : (s : Snapshot) → new_past s → past s ⊎ ((d : Files) × leaves d × Agrees Changed d s.image)
 

@@ -1,11 +1,13 @@
-ghost use Rattle.std.specs.Prelude.{◌≡◌, ◌+◌, ◌-◌, ◌^◌, ◌≤◌, ◌↔◌, ℕ, Bool, List, length, IsTrue, IsErrOf, OnOk, OnErr, Result};
+ghost use Rattle.std.specs.Prelude.{◌≡◌, ◌+◌, ◌-◌, ◌^◌, ◌≤◌, ◌↔◌, ℕ, Bool, List, length, IsTrue, IsErrOf, OnOk};
+ghost use Rattle.std.specs.Prelude.{OnErr, Result};
 ghost use Rattle.std.specs.List.{Contains};
 ghost use Rattle.h5_base.specs.declared.extent.Extent.{Extent};
 ghost use Rattle.h5_base.specs.declared.extent.MemClass.{MemClass};
 ghost use Rattle.outside.specs.Array.{Array, Ends, bytes_of, over, SameOutside};
 ghost use Rattle.outside.specs.Files.{Files, RestsAt};
 ghost use Rattle.outside.specs.Store.{View, Goes, GoesOver};
-ghost use Rattle.outside.specs.Layer.{LayerShape, SameIn, IsOwn, RoseIn, KeepsCounts, LiesWithin, Undisturbed, AreAmong};
+ghost use Rattle.outside.specs.Layer.{LayerShape, SameIn, IsOwn, RoseIn, KeepsCounts, LiesWithin, Undisturbed};
+ghost use Rattle.outside.specs.Layer.{AreAmong};
 ghost use Rattle.outside.specs.Space.{Ascend, AreCovered, AreRegions, raised, new_bytes};
 
 use crate::{Failed, Kept, Store, WriteStop};
@@ -91,7 +93,8 @@ pub trait Layer<S: Store>: Kept {
         requires below { end ≤ ((shape self.old).regions class).limit }
         requires covered { AreCovered (prepared self.old) (ends self.old class) (end - ends self.old class) }
         ensures raised { IsTrue S.tells_files → OnOk result (array self.new (S.view store.new).files
-            ≡ over (array self.old (S.view store.old).files) (ends self.old class) (new_bytes (ends self.old) class end)) }
+            ≡ over (array self.old (S.view store.old).files) (ends self.old class) (new_bytes
+            (ends self.old) class end)) }
         ensures in_part { IsTrue S.tells_files → OnErr result (SameOutside (ends self.old class)
             (end - ends self.old class) (array self.old (S.view store.old).files)
             (array self.new (S.view store.new).files)) }
@@ -174,7 +177,8 @@ pub trait Layer<S: Store>: Kept {
     ghost sound: { (l : Self) (v : View) → Stands l v → AreRegions (shape l).regions (ends l) };
 
     /// The files whose faults it answers are its own, and last after a settle.
-    ghost blames_own: { (l : Self) → AreAmong (shape l).blamed (shape l).files × AreAmong (shape l).copied (shape l).files };
+    ghost blames_own: { (l : Self) → AreAmong (shape l).blamed (shape l).files
+        × AreAmong (shape l).copied (shape l).files };
 
     ghost blamed_last: { (l : Self) → AreAmong (shape l).blamed (lasting l) };
 }

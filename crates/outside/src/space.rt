@@ -1,4 +1,5 @@
-ghost use Rattle.std.specs.Prelude.{◌≡◌, ◌+◌, ◌-◌, ◌^◌, ◌≤◌, ◌↔◌, ℕ, ℤ, Bool, false, List, Some, None, length, IsTrue, IsErrOf, IfOk, OnOk, OnErr, Result};
+ghost use Rattle.std.specs.Prelude.{◌≡◌, ◌+◌, ◌-◌, ◌^◌, ◌≤◌, ◌↔◌, ℕ, ℤ, Bool, false, List, Some, None, length};
+ghost use Rattle.std.specs.Prelude.{IsTrue, IsErrOf, IfOk, OnOk, OnErr, Result};
 ghost use Rattle.outside.specs.Array.{bytes_of, over, SameOutside};
 ghost use Rattle.outside.specs.Causes.{Counts, NoneFell, OneRose};
 ghost use Rattle.outside.specs.Revisions.{Stored};
@@ -50,7 +51,8 @@ pub enum CommitStop {
 /// The calls that write need room: they write within the ranges that `prepare` was last given, and take no memory.
 /// After `Failed` or `WoFailed` of a call that writes it may no longer stand, and then no further call may be made.
 ///
-/// Who only reads leaves an alike space, also after a fault; the laws say what that is: it tells the same, stands, rests
+/// Who only reads leaves an alike space, also after a fault; the laws say what that is: it tells the same, stands,
+/// rests
 /// and is steady as before, and its counts of faults went on from there. So code that reads carries that one fact, and
 /// one cause.
 pub trait Space: Kept {
@@ -78,7 +80,8 @@ pub trait Space: Kept {
     /// The number of calls on the outside so far.
     ghost moment: { Self → ℕ };
 
-    /// The second came from the first by calls, whatever they answered: it keeps its bytes in the same files, and nothing
+    /// The second came from the first by calls, whatever they answered: it keeps its bytes in the same files, and
+    /// nothing
     /// else of the outside has changed.
     ghost GoesOn: { Self → Self → Type 0 };
 
@@ -249,7 +252,8 @@ pub trait Space: Kept {
 
     ghost alike_steady: { IsTrue tells_stops → (a b : Self) → Self.Alike a b → Steady a → Steady b };
 
-    /// The snapshots since a read began leave just the committed revisions; so, as a space is alike to itself, do those of
+    /// The snapshots since a read began leave just the committed revisions; so, as a space is alike to itself, do
+    /// those of
     /// a steady one.
     ghost alike_stops: { IsTrue tells_stops → (a b : Self) → Self.Alike a b → Steady a
         → LeavesSame (moment a) (view a).history.revisions (Leaves a) (Leaves b) };

@@ -1,5 +1,7 @@
-ghost use Rattle.std.specs.Prelude.{◌≡◌, ◌++◌, ◌+◌, ◌^◌, ◌<◌, ◌≤◌, ℕ, Bool, List, [], ◌∷◌, length, take, drop, Some, None, IsTrue, IsOk, IsErr, IsErrOf, IfOk, OnOk, OnErr, slice_index};
-ghost use Rattle.outside.specs.Files.{Files, Snapshot, with_file, written, resized, WrittenInPart, ResizedInPart, Torn, Cut, InFile, Follows, RestsAt};
+ghost use Rattle.std.specs.Prelude.{◌≡◌, ◌++◌, ◌+◌, ◌^◌, ◌<◌, ◌≤◌, ℕ, Bool, List, [], ◌∷◌, length, take, drop, Some};
+ghost use Rattle.std.specs.Prelude.{None, IsTrue, IsOk, IsErr, IsErrOf, IfOk, OnOk, OnErr, slice_index};
+ghost use Rattle.outside.specs.Files.{Files, Snapshot, with_file, written, resized, WrittenInPart, ResizedInPart};
+ghost use Rattle.outside.specs.Files.{Torn, Cut, InFile, Follows, RestsAt};
 ghost use Rattle.outside.specs.Store.{View, AreIds, Calls, Gives, SameIds, IsNow, Passes};
 
 use crate::Failed;
@@ -46,19 +48,23 @@ pub trait Store {
     fn file(&mut self, name: &Name) -> Result<FileId, FileStop>
         ensures given { IfOk result (λ id. Gives name.now id.n (view self.old) (view self.new)) }
         ensures same { OnErr result (SameIds (view self.old) (view self.new)) }
-        ensures call { Calls tells_files None (IsErrOf result FileStop.Failed) (λ _. ⊥) (view self.old) (view self.new) }
+        ensures call { Calls tells_files None (IsErrOf result FileStop.Failed) (λ _. ⊥) (view self.old)
+            (view self.new) }
         ensures images { IsTrue tells_images → (c : Files) → leaves self.new c → leaves self.old c }
-        ensures time { IsTrue tells_images → Passes ((view self.new).files ∷ []) (view self.new) (leaves self.new) (past self.old) (past self.new) };
+        ensures time { IsTrue tells_images
+            → Passes ((view self.new).files ∷ []) (view self.new) (leaves self.new) (past self.old) (past self.new) };
 
     /// The length of a file in bytes.
     fn len(&mut self, id: FileId) -> Result<u64, Failed>
         requires { 0 < length ((view self.old).names id.n) }
-        ensures len { IsTrue tells_files → IfOk result (λ n. n ≡ length ((view self.old).files ((view self.old).names id.n))) }
+        ensures len { IsTrue tells_files
+            → IfOk result (λ n. n ≡ length ((view self.old).files ((view self.old).names id.n))) }
         ensures names { (view self.new).names ≡ (view self.old).names }
         ensures ids { (view self.new).ids ≡ (view self.old).ids }
         ensures call { Calls tells_files (Some id.n) (IsErr result) (λ _. ⊥) (view self.old) (view self.new) }
         ensures images { IsTrue tells_images → (c : Files) → leaves self.new c → leaves self.old c }
-        ensures time { IsTrue tells_images → Passes ((view self.new).files ∷ []) (view self.new) (leaves self.new) (past self.old) (past self.new) };
+        ensures time { IsTrue tells_images
+            → Passes ((view self.new).files ∷ []) (view self.new) (leaves self.new) (past self.old) (past self.new) };
 
     /// Gives the bytes from `at` on, as many as `out` has, and their count: fewer only at the file's end.
     fn read(&mut self, id: FileId, at: u64, out: &mut [u8]) -> Result<usize, Failed>
@@ -71,7 +77,8 @@ pub trait Store {
         ensures ids { (view self.new).ids ≡ (view self.old).ids }
         ensures call { Calls tells_files (Some id.n) (IsErr result) (λ _. ⊥) (view self.old) (view self.new) }
         ensures images { IsTrue tells_images → (c : Files) → leaves self.new c → leaves self.old c }
-        ensures time { IsTrue tells_images → Passes ((view self.new).files ∷ []) (view self.new) (leaves self.new) (past self.old) (past self.new) };
+        ensures time { IsTrue tells_images
+            → Passes ((view self.new).files ∷ []) (view self.new) (leaves self.new) (past self.old) (past self.new) };
 
     /// Writes the bytes from `at` on, with zeros up to `at` where the file is shorter. After `Failed` the file
     /// may have changed in this range alone, and by these zeros.
@@ -81,14 +88,22 @@ pub trait Store {
         ensures written { IsTrue tells_files → let name = (view self.old).names id.n in
             OnOk result ((view self.new).files name ≡ written at bytes.now ((view self.old).files name)) }
         ensures in_part { IsTrue tells_files → let name = (view self.old).names id.n in
-            OnErr result (WrittenInPart at (length bytes.now) ((view self.old).files name) ((view self.new).files name)) }
+            OnErr result (WrittenInPart at (length bytes.now) ((view self.old).files name)
+            ((view self.new).files name)) }
         ensures names { (view self.new).names ≡ (view self.old).names }
         ensures ids { (view self.new).ids ≡ (view self.old).ids }
-        ensures call { Calls tells_files (Some id.n) (IsErr result) (λ q. q ≡ (view self.old).names id.n) (view self.old) (view self.new) }
-        ensures images { IsTrue tells_images → Follows (InFile ((view self.old).names id.n) (Torn at (length bytes.now))) (leaves self.old) (leaves self.new) }
-        ensures time { IsTrue tells_images → OnOk result (Passes ((view self.new).files ∷ []) (view self.new) (leaves self.new) (past self.old) (past self.new)) }
-        ensures time_failed { IsTrue tells_images → let name = (view self.old).names id.n in let old = (view self.old).files in
-            OnErr result (Passes (old ∷ with_file old name (written at bytes.now (old name)) ∷ []) (view self.new) (leaves self.new) (past self.old) (past self.new)) };
+        ensures call { Calls tells_files (Some id.n) (IsErr result) (λ q. q ≡ (view self.old).names id.n)
+            (view self.old) (view self.new) }
+        ensures images { IsTrue tells_images
+            → Follows (InFile ((view self.old).names id.n) (Torn at (length bytes.now))) (leaves self.old)
+            (leaves self.new) }
+        ensures time { IsTrue tells_images
+            → OnOk result (Passes ((view self.new).files ∷ []) (view self.new) (leaves self.new) (past self.old)
+            (past self.new)) }
+        ensures time_failed { IsTrue tells_images
+            → let name = (view self.old).names id.n in let old = (view self.old).files in
+            OnErr result (Passes (old ∷ with_file old name (written at bytes.now (old name)) ∷ []) (view self.new)
+            (leaves self.new) (past self.old) (past self.new)) };
 
     /// Cuts the file to `n` bytes, or lengthens it by zeros. After `Failed` its length may be any between the
     /// old one and `n`.
@@ -101,9 +116,12 @@ pub trait Store {
             OnErr result (ResizedInPart n ((view self.old).files name) ((view self.new).files name)) }
         ensures names { (view self.new).names ≡ (view self.old).names }
         ensures ids { (view self.new).ids ≡ (view self.old).ids }
-        ensures call { Calls tells_files (Some id.n) (IsErr result) (λ q. q ≡ (view self.old).names id.n) (view self.old) (view self.new) }
-        ensures images { IsTrue tells_images → Follows (InFile ((view self.old).names id.n) (Cut n)) (leaves self.old) (leaves self.new) }
-        ensures time { IsTrue tells_images → Passes ((view self.new).files ∷ []) (view self.new) (leaves self.new) (past self.old) (past self.new) };
+        ensures call { Calls tells_files (Some id.n) (IsErr result) (λ q. q ≡ (view self.old).names id.n)
+            (view self.old) (view self.new) }
+        ensures images { IsTrue tells_images
+            → Follows (InFile ((view self.old).names id.n) (Cut n)) (leaves self.old) (leaves self.new) }
+        ensures time { IsTrue tells_images
+            → Passes ((view self.new).files ∷ []) (view self.new) (leaves self.new) (past self.old) (past self.new) };
 
     /// Makes the file last as it reads: after `Ok`, over an honest store, every stop leaves it so.
     fn sync(&mut self, id: FileId) -> Result<(), Failed>
@@ -114,7 +132,8 @@ pub trait Store {
         ensures images { IsTrue tells_images → (c : Files) → leaves self.new c → leaves self.old c }
         ensures kept { IsTrue tells_images → IsTrue (view self.old).honest → let name = (view self.old).names id.n in
             OnOk result (RestsAt name ((view self.old).files name) (leaves self.new)) }
-        ensures time { IsTrue tells_images → Passes ((view self.new).files ∷ []) (view self.new) (leaves self.new) (past self.old) (past self.new) };
+        ensures time { IsTrue tells_images
+            → Passes ((view self.new).files ∷ []) (view self.new) (leaves self.new) (past self.old) (past self.new) };
 
     /// Its ids are told apart, and no other number has a name or a fault.
     ghost ids_stand: { (s : Self) → AreIds (view s) };
@@ -127,5 +146,6 @@ pub trait Store {
         → (readings : List Files) × past s (record { moment = (view s).moment; image = c; readings = readings }) };
 
     /// This moment has no other, and no later moment has one.
-    ghost only_now: { IsTrue tells_images → (s : Self) (x : Snapshot) → past s x → (view s).moment ≤ x.moment → IsNow (view s) (leaves s) x };
+    ghost only_now: { IsTrue tells_images → (s : Self) (x : Snapshot) → past s x → (view s).moment ≤ x.moment
+        → IsNow (view s) (leaves s) x };
 }

@@ -30,7 +30,8 @@ goes_within tells P Q v w within goes = record {
   others = λ told q other. goes.others told q (λ changed. other (within q changed));
 }
 
-pub over_within : (P Q : List ℕ → Type 0) (lv lw : Files → Type 0) (pv pw : Snapshot → Type 0) → ((q : List ℕ) → P q → Q q)
+pub over_within : (P Q : List ℕ → Type 0) (lv lw : Files → Type 0) (pv pw : Snapshot → Type 0) → ((q : List ℕ)
+    → P q → Q q)
     → GoesOver P lv lw pv pw → GoesOver Q lv lw pv pw
 over_within P Q lv lw pv pw within over = record {
   now = λ c left. let d = over.now c left in (d.0, d.1, λ q other. d.2 q (λ changed. other (within q changed)));
