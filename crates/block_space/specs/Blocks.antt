@@ -17,8 +17,7 @@ abbrev pub space_of : {V : Type 0} → Blocks V → V
 space_of blocks = blocks.space
 
 -- A catalogue has just the blocks of the list: each lies below an end of what a space tells, no address lies in two,
--- and
--- they are as many as a file may have.
+-- and they are no more than a file may have.
 pub record AreListed (v : SpaceView) (entries : BTreeMap ℕ ℕ) (met : List Block) : Type 0 where
   pub lists : Lists entries met
   pub few : length met ≤ most_blocks

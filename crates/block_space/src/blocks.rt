@@ -80,9 +80,8 @@ impl<V: Space> Blocks<V> {
 
     /// Takes a block of at least one byte into the catalogue. After an error the catalogue is as it was. The error is
     /// the first that applies: a block that begins there is in the catalogue (`LinkedTwice`), one shares an address
-    /// with
-    /// it (`Overlap`), it passes its region's end (`Malformed` as its kind), the catalogue has as many blocks as a file
-    /// may have (`TooMany`), or want of memory.
+    /// with it (`Overlap`), it passes its region's end (`Malformed` as its kind), the catalogue has as many blocks as a
+    /// file may have (`TooMany`), or want of memory.
     pub fn adopt(&mut self, start: u64, len: u64, kind: BlockKind) -> Result<(), Stop>
         requires stands { V.Stands (space_of self.old) }
         requires some { 0 < len }
@@ -130,8 +129,7 @@ impl<V: Space> Blocks<V> {
     }
 
     /// Sets the catalogue aside: from now on one without blocks is kept. So what was met before is read again as what
-    /// is
-    /// met for the first time.
+    /// is met for the first time.
     pub fn set_aside(&mut self, alloc: Global) -> Catalogue
         ensures empty { Keeps V.view self.new [] }
         ensures kept { (met : List Block) → Keeps V.view self.old met

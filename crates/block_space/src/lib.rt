@@ -1,6 +1,5 @@
 //! A catalogue of the blocks of an HDF5 file, by address, over any space of addresses. What reads a file takes each
-//! block
-//! into it and reads it through it, or the file is refused.
+//! block into it and reads it through it, or the file is refused.
 #![tactic(auto)]
 
 mod blocks;

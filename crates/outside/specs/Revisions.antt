@@ -23,9 +23,8 @@ pub data Stored : Type 0 where
   Damaged : ℕ → Stored
 
 -- What a space with revisions always tells of them: how many are committed, revision 0 among them, the size of a page,
--- where the committed bytes of the file with the revisions end, the pages of the last record, and the pages written
--- since
--- the last commit.
+-- where the committed bytes of the file with the revisions end, the pages of the last record, and the pages that were
+-- written since the last commit.
 pub record Committed : Type 0 where
   pub count : ℕ
   pub page : ℕ
@@ -33,8 +32,8 @@ pub record Committed : Type 0 where
   pub recorded : List ℕ
   pub written : List ℕ
 
--- What it tells of them where it tells its bytes: the revisions committed so far, from 0 on, and the ends of revision
--- 0.
+-- What it tells of them where it tells its bytes: the revisions committed so far, from 0 on, and where the classes end
+-- in revision 0.
 pub record History : Type 0 where
   pub revisions : List Stored
   pub origin : Ends

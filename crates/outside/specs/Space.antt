@@ -21,8 +21,7 @@ use Rattle.outside.specs.declared.space.CommitAnswer.{CommitAnswer}
 use Rattle.outside.specs.declared.space.CommitAnswer.TheVariants as answer
 
 -- What a space tells: its bytes and where each class ends, its regions, whether it can be written, the ranges that it
--- is
--- prepared for, and, where it has revisions, how many with their pages. The bytes and the revisions themselves mean
+-- is prepared for, and, where it has revisions, how many with their pages. The bytes and the revisions themselves mean
 -- something only where it tells its bytes; all else is always told.
 pub record SpaceView : Type 0 where
   pub array : Array
