@@ -1,5 +1,5 @@
 ghost use Rattle.std.specs.Prelude.{◌≡◌, ◌+◌, ◌^◌, ◌<◌, ◌≤◌, ◌++◌, ◌∷◌, [], ℕ, List, Option, None, IsTrue, IfOk, IfErr};
-ghost use Rattle.std.specs.Prelude.{IfSome, OnOk, IsErrOf, length};
+ghost use Rattle.std.specs.Prelude.{IfSome, IsSome, OnOk, OnErr, IsErrOf, length};
 ghost use Rattle.h5_base.specs.Refusals.{refusal_of};
 ghost use Rattle.outside.specs.Array.{bytes_of};
 ghost use Rattle.outside.specs.Blocks.{Block, IsBlockRefused, IsPlacedRefused, placed};
@@ -22,6 +22,7 @@ impl<V: Space> Blocks<V> {
         ensures refused { IfErr result (λ stop. (met : List Block) (own : Option (List ℕ)) → Keeps V.view self.old met
             → IfSome (refusal_of stop)
             (IsPlacedRefused (bounds_of (V.view (space_of self.old)) own) met start len kind)) }
+        ensures same { OnErr result ((met : List Block) → Keeps V.view self.old met → Keeps V.view self.new met) }
         ensures no_fault { ¬ IsErrOf result Stop.Failed }
         ensures space { space_of self.new ≡ space_of self.old }
     {
@@ -70,6 +71,8 @@ impl<V: Space> Blocks<V> {
         ensures refused { IfErr result (λ stop. (met : List Block) (own : Option (List ℕ)) → Keeps V.view self.old met
             → IfSome (refusal_of stop) (IsBlockRefused (bounds_of (V.view (space_of self.old)) own) met
             (record { start = at; len = len }) kind)) }
+        ensures same { IfErr result (λ stop. IsSome (refusal_of stop) → (met : List Block) → Keeps V.view self.old met
+            → Keeps V.view self.new met) }
         ensures alike { V.Alike (space_of self.old) (space_of self.new) }
         ensures failed { IsErrOf result Stop.Failed
             → OneRose (V.faults (space_of self.old)) (V.faults (space_of self.new)) }

@@ -48,7 +48,7 @@ message_behind pre rest i p h =
       value = λ j. record { kind = is_kind j; flags = is_flags j; at = i + 8; len = is_len j };
     }
 
-stand_behind : (pre rest : List ℕ) (i : ℕ) (ps : List NewMessage) → written.Stand (pre ++ rest) (length pre + i) ps → Stand rest i (map met_of ps)
+stand_behind : (pre rest : List ℕ) (i : ℕ) (ps : List NewMessage) → written.StandToEnd (pre ++ rest) (length pre + i) ps → Stand rest i (map met_of ps)
 stand_behind pre rest i [] h = tt
 stand_behind pre rest i (p ∷ ps) h =
     let n = length p.body in
@@ -56,7 +56,7 @@ stand_behind pre rest i (p ∷ ps) h =
     let next : length pre + i + 8 + n ≡ length pre + (i + 8 + n) = omega arith in (
       message_behind pre rest i p h.0,
       sym (sym (ap (λ (k : ℕ). bytes_at (pre ++ rest) k n) at ∙ bytes_at-past pre rest (i + 8) n) ∙ h.1),
-      stand_behind pre rest (i + 8 + n) ps (subst (λ (k : ℕ). written.Stand (pre ++ rest) k ps) next h.2),
+      stand_behind pre rest (i + 8 + n) ps (subst (λ (k : ℕ). written.StandToEnd (pre ++ rest) k ps) next h.2),
     )
 
 prefix_front : (pre rest : List ℕ) (p : Prefix) → length pre ≡ 16 → SpellsPrefix p (pre ++ rest) → SpellsPrefix p pre
@@ -87,7 +87,7 @@ new_header b at n h ps spelled plain =
     let split : bytes_of b at n ≡ pre ++ rest = split_bytes b at n 16 room in
     let prefix : SpellsPrefix (new_prefix n ps) (pre ++ rest) =
     subst (λ (x : List ℕ). SpellsPrefix (new_prefix n ps) x) split (subst (λ (k : ℕ). SpellsPrefix (new_prefix k ps) (bytes_of b at n)) long spelled.prefix) in
-    let stand : written.Stand (pre ++ rest) 16 ps = subst (λ (x : List ℕ). written.Stand x 16 ps) split spelled.messages in
+    let stand : written.StandToEnd (pre ++ rest) 16 ps = subst (λ (x : List ℕ). written.StandToEnd x 16 ps) split spelled.messages in
     let pre_long : length pre ≡ 16 = length-map-range_with_len b at 16 in
     let from : 16 ≡ length pre + 0 = omega arith in
     let count = length-map ps met_of in
@@ -100,7 +100,7 @@ new_header b at n h ps spelled plain =
         met = (
           omega arith,
           refl,
-          stand_behind pre rest 0 ps (subst (λ (k : ℕ). written.Stand (pre ++ rest) k ps) from stand),
+          stand_behind pre rest 0 ps (subst (λ (k : ℕ). written.StandToEnd (pre ++ rest) k ps) from stand),
           plain.whole,
           omega arith,
           inr count,

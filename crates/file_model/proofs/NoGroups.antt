@@ -108,7 +108,7 @@ key_not segment heap node k l low high done here r a b between ordered (NotBetwe
     let one : low ≡ m = text_same segment k low m a first in
     let two : high ≡ n = text_same segment l high n b second in
     wrong (subst (λ (x : Name). AreBetween x n here) one (subst (λ (x : Name). AreBetween low x here) two between))
-key_not segment heap node k l low high done here r a b between ordered (LinksDisordered wrong line) = wrong ordered
+key_not segment heap node k l low high done here r a b between ordered (LinksDisordered m n first second mid wrong line) = wrong ordered
 
 children_not : (e : Bounds) (segment : List ℕ) (heap node : ℕ) (Child : Under) (Refused : RefusedUnder) → IsOne Child → NotUnder e Child Refused → (keys children : List ℕ) (fs : List Found) (bs : List Block)
     (done : List Found) (met later : List Block) (r : Refusal) → AreChildren segment Child keys children fs bs → AreOrdered (names_of (done ++ fs)) → Room e met (bs ++ later)
@@ -161,7 +161,7 @@ node_not b e ks segment heap level Child Refused one not met later at fs bs r h 
     go : IsNodeRefused b e ks segment heap level Child Refused met at r → ⊥
     go (NodeBlock k) = not_refused e met own kind.Tree r (free_of e met own (h.below ++ later) room') k
     go (NoNode none line) = none h.node h.spelled h.level_is
-    go (InChildren n spelled k) =
+    go (InChildren n spelled is k) =
         let node : n ≡ h.node = spelled.value ∙ sym h.spelled.value in
         let k' = subst (λ (x : GroupNode). AreChildrenRefused segment heap at Child Refused x.keys x.children [] (met ++ own ∷ []) r) node k in
         children_not e segment heap at Child Refused one not h.node.keys h.node.children fs h.below [] (met ++ own ∷ []) later r h.children ordered (room_after e met (own ∷ []) (h.below ++ later) room') k'
@@ -197,10 +197,10 @@ table_not b e ks met later tree heap fs bs r h room small refused = go refused
     go (HeapBlock k) = not_refused e met (heap_block heap) kind.Heap r (free_of e met (heap_block heap) (segment ++ (h.nodes ++ later)) room') k
     go (NoHeap none line) = none h.head h.spelled
     go (LargeHeap k s large line) = omega (arith, large, small k s)
-    go (SegmentBlock k s x) =
+    go (SegmentBlock k s few x) =
         let x' = subst (λ (y : HeapHead). IsPlacedRefused e (met ++ heap_block heap ∷ []) y.segment_at y.len kind.Heap r) (same k s) x in
         placed_not_refused e (met ++ heap_block heap ∷ []) h.head.segment_at h.head.len (h.nodes ++ later) kind.Heap r room_segment x'
-    go (InNodes k s x) =
+    go (InNodes k s few x) =
         let x' = subst (λ (y : HeapHead). IsIndexRefused b e ks (bytes_of b y.segment_at y.len) heap (root_level b ks tree) (met ++ heap_block heap ∷ placed y.segment_at y.len) tree r) (same k s) x in
         let text = bytes_of b h.head.segment_at h.head.len in
         let level : h.level ≡ root_level b ks tree = level_of b ks text h.level tree fs h.nodes h.index in

@@ -1,6 +1,6 @@
 -- Why a group's heap, its B-tree and its symbol table nodes are refused, each after the blocks that were met before.
 -- Cited by what opens a file.
-use Rattle.std.specs.Prelude.{◌≡◌, ◌⊎◌, ℕ, zero, suc, ◌<◌, List, [], ◌∷◌, ◌++◌, map}
+use Rattle.std.specs.Prelude.{◌≡◌, ◌⊎◌, ℕ, zero, suc, ◌<◌, ◌≤◌, List, [], ◌∷◌, ◌++◌, map}
 use Rattle.outside.specs.Array.{Array, bytes_of}
 use Rattle.outside.specs.Blocks.{Block, Bounds, placed}
 use Rattle.h5_base.specs.declared.kinds.BlockKind.TheVariants as kind
@@ -66,14 +66,15 @@ pub data IsLeafRefused (b : Array) (e : Bounds) (ks : Ks) (segment : List ℕ) (
       → IsLeafRefused b e ks segment heap met at r
 
 -- The keys on both sides of a child that was read are refused, for the links under it, and those under the children
--- before it: a key's text isn't in the segment, a name isn't between the keys, or the names don't ascend.
+-- before it: a key's text isn't in the segment; or else a name isn't between the keys; or else the names don't ascend.
 pub data IsKeyRefused (segment : List ℕ) (heap node k l : ℕ) (done here : List Found) (r : Refusal) : Type 0 where
   NoKey : HasNoText segment k ⊎ HasNoText segment l → r ≡ Malformed heap kind.Heap
       → IsKeyRefused segment heap node k l done here r
   NotBetween : (low high : Name) → HasText segment k low → HasText segment l high → (AreBetween low high here → ⊥)
       → r ≡ Malformed node kind.Tree
       → IsKeyRefused segment heap node k l done here r
-  LinksDisordered : (AreOrdered (names_of (done ++ here)) → ⊥) → r ≡ Malformed node kind.Tree
+  LinksDisordered : (low high : Name) → HasText segment k low → HasText segment l high → AreBetween low high here
+      → ¬ AreOrdered (names_of (done ++ here)) → r ≡ Malformed node kind.Tree
       → IsKeyRefused segment heap node k l done here r
 
 -- a child is refused, or the keys beside it once all under it was read, or a later child
@@ -97,6 +98,7 @@ pub data IsNodeRefused (b : Array) (e : Bounds) (ks : Ks) (segment : List ℕ) (
       → n.level ≡ level → ⊥) → r ≡ Malformed at kind.Tree
       → IsNodeRefused b e ks segment heap level Child RefusedChild met at r
   InChildren : (n : GroupNode) → SpellsGroupNode ks.internal n (bytes_of b at (group_node_len ks.internal))
+      → n.level ≡ level
       → AreChildrenRefused segment heap at Child RefusedChild n.keys n.children []
       (met ++ record { start = at; len = group_node_len ks.internal } ∷ []) r
       → IsNodeRefused b e ks segment heap level Child RefusedChild met at r
@@ -124,10 +126,10 @@ pub data IsTableRefused (b : Array) (e : Bounds) (ks : Ks) (met : List Block) (t
       → IsTableRefused b e ks met tree heap r
   LargeHeap : (h : HeapHead) → SpellsHeap h (bytes_of b heap 32) → most_segment < h.len → r ≡ Unsupported what.Heap
       → IsTableRefused b e ks met tree heap r
-  SegmentBlock : (h : HeapHead) → SpellsHeap h (bytes_of b heap 32)
+  SegmentBlock : (h : HeapHead) → SpellsHeap h (bytes_of b heap 32) → h.len ≤ most_segment
       → IsPlacedRefused e (met ++ heap_block heap ∷ []) h.segment_at h.len kind.Heap r
       → IsTableRefused b e ks met tree heap r
-  InNodes : (h : HeapHead) → SpellsHeap h (bytes_of b heap 32)
+  InNodes : (h : HeapHead) → SpellsHeap h (bytes_of b heap 32) → h.len ≤ most_segment
       → IsIndexRefused b e ks (bytes_of b h.segment_at h.len) heap (root_level b ks tree)
       (met ++ heap_block heap ∷ placed h.segment_at h.len) tree r
       → IsTableRefused b e ks met tree heap r

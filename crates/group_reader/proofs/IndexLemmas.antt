@@ -89,4 +89,4 @@ module _ {V : Type 0} (tells : Bool) (view : V → SpaceView) (old mid : Blocks 
       let one = subst (λ (v : SpaceView). IfSome (refusal_of stop) (AreChildrenRefused s heap at (IsBelow v.array ks s node.level) (IsBelowRefused v.array (bounds_of v own) ks s heap node.level) node.keys node.children [] m)) same (k m own (taken met keeps)) in
       let two = subst (λ (n : ℕ). IfSome (refusal_of stop) (AreChildrenRefused s heap at (IsBelow b ks s n) (IsBelowRefused b e ks s heap n) node.keys node.children [] m)) is one in
       if_some (refusal_of stop) (AreChildrenRefused s heap at (IsBelow b ks s level) (IsBelowRefused b e ks s heap level) node.keys node.children [] m) (IsIndexRefused b e ks s heap level met at)
-      (λ why x. as_index_refused b e ks s heap level met at why (InChildren node spelled x)) two) h
+      (λ why x. as_index_refused b e ks s heap level met at why (InChildren node spelled is x)) two) h

@@ -1,5 +1,5 @@
 -- A whole table: the heap, and the B-tree after it.
-use Rattle.std.proofs.Common.{◌≡◌, ℕ, Bool, IsTrue, List, [], ◌∷◌, ◌++◌, IfSome, refl, sym, ◌∙◌, ap, subst}
+use Rattle.std.proofs.Common.{◌≡◌, ◌≤◌, ℕ, Bool, IsTrue, List, [], ◌∷◌, ◌++◌, IfSome, refl, sym, ◌∙◌, ap, subst}
 use Rattle.std.proofs.lemmas.List.{append_assoc}
 use Rattle.outside.specs.Array.{bytes_of}
 use Rattle.outside.specs.Blocks.{Block, IsPlacedRefused, placed}
@@ -14,23 +14,25 @@ use Rattle.block_space.specs.declared.blocks.Blocks.{Blocks}
 use Rattle.block_space.proofs.Stopped.{if_some}
 use Rattle.file_model.specs.Groups.{Ks, Found, IsIndex, HasLinks}
 use Rattle.file_model.specs.RefusedGroups.{root_level, IsIndexRefused, IsTableRefused, SegmentBlock, InNodes, heap_block}
+use Rattle.file_model.specs.Limits.{most_segment}
 use Rattle.group_reader.specs.declared.link.FoundLink.{FoundLink}
 use Rattle.group_reader.specs.declared.gathered.Gathered.{Gathered}
 use Rattle.group_reader.specs.Links.{links_of, Adds}
 use Rattle.group_reader.specs.Reading.{TakesJust}
 
-pub segment_refused : {V : Type 0} (view : V → SpaceView) (old mid : Blocks V) (ks : Ks) (tree heap : ℕ) (head : HeapHead) (stop : Stop) → SpellsHeap head (bytes_of (view old.space).array heap 32) → view mid.space ≡ view old.space
+pub segment_refused : {V : Type 0} (view : V → SpaceView) (old mid : Blocks V) (ks : Ks) (tree heap : ℕ) (head : HeapHead) (stop : Stop) → SpellsHeap head (bytes_of (view old.space).array heap 32) → head.len ≤ most_segment → view mid.space ≡ view old.space
     → TakesJust view old mid (heap_block heap ∷ []) → Refuses view mid (λ e met. IsPlacedRefused e met head.segment_at head.len kind.Heap) stop → Refuses view old (λ e met. IsTableRefused (view old.space).array e ks met tree heap) stop
-segment_refused view old mid ks tree heap head stop spelled same taken refused = λ met own keeps.
+segment_refused view old mid ks tree heap head stop spelled few same taken refused = λ met own keeps.
     let b = (view old.space).array in
     let e = bounds_of (view old.space) own in
     let m = met ++ heap_block heap ∷ [] in
     let here = subst (λ (v : SpaceView). IfSome (refusal_of stop) (IsPlacedRefused (bounds_of v own) m head.segment_at head.len kind.Heap)) same (refused m own (taken met keeps)) in
-    if_some (refusal_of stop) (IsPlacedRefused e m head.segment_at head.len kind.Heap) (IsTableRefused b e ks met tree heap) (λ r x. SegmentBlock head spelled x) here
+    if_some (refusal_of stop) (IsPlacedRefused e m head.segment_at head.len kind.Heap) (IsTableRefused b e ks met tree heap) (λ r x. SegmentBlock head spelled few x) here
 
 -- The heap was read: its header, its segment, and the blocks of both.
 pub record HeapRead {V : Type 0} (view : V → SpaceView) (old mid new : Blocks V) (heap : ℕ) (head : HeapHead) (segment : List ℕ) : Type 0 where
   pub spelled : SpellsHeap head (bytes_of (view old.space).array heap 32)
+  pub few : head.len ≤ most_segment
   pub first : view mid.space ≡ view old.space
   pub second : view new.space ≡ view mid.space
   pub bytes : segment ≡ bytes_of (view mid.space).array head.segment_at head.len
@@ -73,4 +75,4 @@ module _ {V : Type 0} (view : V → SpaceView) (old mid new : Blocks V) (ks : Ks
       let one = subst (λ (v : SpaceView). IfSome (refusal_of stop) (IsIndexRefused v.array (bounds_of v own) ks segment heap (root_level v.array ks tree) m tree)) (h.second ∙ h.first)
       (refused m own (both_taken met keeps)) in
       let two = subst (λ (l : List ℕ). IfSome (refusal_of stop) (IsIndexRefused b e ks l heap (root_level b ks tree) m tree)) segment_is one in
-      if_some (refusal_of stop) (IsIndexRefused b e ks (bytes_of b head.segment_at head.len) heap (root_level b ks tree) m tree) (IsTableRefused b e ks met tree heap) (λ r x. InNodes head h.spelled x) two
+      if_some (refusal_of stop) (IsIndexRefused b e ks (bytes_of b head.segment_at head.len) heap (root_level b ks tree) m tree) (IsTableRefused b e ks met tree heap) (λ r x. InNodes head h.spelled h.few x) two

@@ -1,4 +1,4 @@
-ghost use Rattle.std.specs.Prelude.{◌≡◌, ◌+◌, ℕ, List, IsTrue, IfOk, IfErr, OnOk, IsErrOf};
+ghost use Rattle.std.specs.Prelude.{◌≡◌, ◌+◌, ℕ, List, IsTrue, IfOk, IfErr, OnOk, OnErr, IsErrOf};
 ghost use Rattle.outside.specs.Blocks.{Block};
 ghost use Rattle.outside.specs.Causes.{OneRose};
 ghost use Rattle.object_model.specs.Tree.{AreOrdered};
@@ -72,6 +72,7 @@ pub fn read_links<V: Space>(
         IsTableRefused (array_of V.view blocks.old) e ks met tree_at heap_at r)) }
     ensures ordered { IfOk result (λ links. AreOrdered (names_of (links_of links.items))) }
     ensures spent { IfOk result (λ links. text_bytes (links_of links.items) + texts.new.left ≡ texts.old.left) }
+    ensures same { OnErr result (texts.new.left ≡ texts.old.left) }
     ensures alike { V.Alike (space_of blocks.old) (space_of blocks.new) }
     ensures listed { OnOk result ((met : List Block) × Keeps V.view blocks.new met) }
     ensures failed { IsErrOf result Stop.Failed

@@ -10,7 +10,7 @@ pub returns-in_err-segment-clause-refused : goal.returns-in_err-segment-clause-r
 returns-in_err-segment-clause-refused g c = λ told.
     let stop = c.in_err-segment.field-0.0 in
     passed c.from_residual-in_err-segment.result stop (Refuses g.V.Space.view c.args.blocks.now (λ e met r. IsTableRefused (array_of g.V.Space.view c.args.blocks.now) e c.args.ks met c.args.tree_at c.args.heap_at r)) c.from_residual-in_err-segment.ensures.1
-    (segment_refused g.V.Space.view c.args.blocks.now c.read_head.new.blocks c.args.ks c.args.tree_at c.args.heap_at c.in_ok-head.head stop (c.in_ok-head.ensures.found told) (sym (g.met.V.Space.alike _ _ c.in_ok-head.ensures.alike))
+    (segment_refused g.V.Space.view c.args.blocks.now c.read_head.new.blocks c.args.ks c.args.tree_at c.args.heap_at c.in_ok-head.head stop (c.in_ok-head.ensures.found told) c.in_ok-head.ensures.small (sym (g.met.V.Space.alike _ _ c.in_ok-head.ensures.alike))
     c.in_ok-head.ensures.taken c.in_err-segment.ensures.refused)
 
 pub returns-in_err-segment-clause-failed : goal.returns-in_err-segment-clause-failed
@@ -22,6 +22,7 @@ pub returns-in_err-read_tree-clause-refused : goal.returns-in_err-read_tree-clau
 returns-in_err-read_tree-clause-refused g c = λ told.
     let heap : HeapRead g.V.Space.view c.args.blocks.now c.read_head.new.blocks c.read_segment.new.blocks c.args.heap_at c.in_ok-head.head c.deref.result.now = record {
       spelled = c.in_ok-head.ensures.found told;
+      few = c.in_ok-head.ensures.small;
       first = sym (g.met.V.Space.alike _ _ c.in_ok-head.ensures.alike);
       second = sym (g.met.V.Space.alike _ _ c.in_ok-segment.ensures.alike);
       bytes = c.deref.ensures.value ∙ c.in_ok-segment.ensures.bytes told;
@@ -41,6 +42,7 @@ pub returns-clause-found : goal.returns-clause-found
 returns-clause-found g c = λ told.
     let heap : HeapRead g.V.Space.view c.args.blocks.now c.read_head.new.blocks c.read_segment.new.blocks c.args.heap_at c.in_ok-head.head c.deref.result.now = record {
       spelled = c.in_ok-head.ensures.found told;
+      few = c.in_ok-head.ensures.small;
       first = sym (g.met.V.Space.alike _ _ c.in_ok-head.ensures.alike);
       second = sym (g.met.V.Space.alike _ _ c.in_ok-segment.ensures.alike);
       bytes = c.deref.ensures.value ∙ c.in_ok-segment.ensures.bytes told;
