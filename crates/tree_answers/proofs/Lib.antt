@@ -3,3 +3,4 @@ pub mod Walks
 pub mod Told
 pub mod Looks
 pub mod Opened
+pub mod SoundTrees

@@ -9,6 +9,7 @@ use Rattle.object_model.specs.Step.{Plain, Reply, Gives, step}
 use Rattle.file_model.specs.Holds.{Holds}
 use Rattle.tree_nodes.specs.declared.tree.ObjectTree.{ObjectTree}
 use Rattle.object_tree.specs.Opened.{IsOpened}
+use Rattle.object_tree.specs.Sound.{IsSoundTree}
 use Rattle.tree_answers.specs.Answers.{is_given, plain_stack}
 use Rattle.tree_answers.specs.Shown.{IsTreeOf}
 
@@ -20,6 +21,11 @@ Held = (b : Array) (e : Bounds) (kept : ObjectTree) → IsOpened b e kept → (t
 abbrev pub OpenedIs : Type 0
 OpenedIs = (b : Array) (e : Bounds) (kept : ObjectTree) → IsOpened b e kept → (t : Plain) → Holds b e t
     → IsTreeOf kept t
+
+-- A tree that is sound is some tree of objects, whatever the space tells: so what is answered from it is the answer of a
+-- step.
+abbrev pub SoundIs : Type 0
+SoundIs = (kept : ObjectTree) → IsSoundTree kept → (t : Plain) × IsTreeOf kept t
 
 -- a given command leaves the tree as it is, and makes no revision
 abbrev pub OnlyLooks : Type 0

@@ -1,7 +1,7 @@
 //! Laws of the tree that the program keeps, and of the commands that are given. Each function does nothing: its clause
 //! is the law.
 
-ghost use Rattle.tree_answers.specs.Laws.{Held, OpenedIs, OnlyLooks};
+ghost use Rattle.tree_answers.specs.Laws.{Held, OpenedIs, SoundIs, OnlyLooks};
 
 /// The bytes of an opened file hold a tree of objects, which is the one that is kept.
 pub fn held()
@@ -11,6 +11,11 @@ pub fn held()
 /// Each tree that the bytes of an opened file hold is the one that is kept.
 pub fn opened_is()
     ensures { OpenedIs }
+{}
+
+/// A sound tree is some tree of objects, also over a space that tells nothing.
+pub fn sound_is()
+    ensures { SoundIs }
 {}
 
 /// A given command leaves the tree as it is.
