@@ -26,6 +26,7 @@ unfolding told
 calls_told tells own Failed Changed a b m n honest f g counts time others = record {
   later = counts.later;
   failed = counts.failed;
+  calm = counts.calm;
   counts = counts.counts;
   moment = time;
   honest = refl;
@@ -33,10 +34,12 @@ calls_told tells own Failed Changed a b m n honest f g counts time others = reco
 }
 
 -- the same of a fault that is answered in other words
-pub counts_as : (own : Option ℕ) (Failed Fault : Type 0) (a b : Ids) → Counts own Failed a b → (Fault → Failed) → Counts own Fault a b
-counts_as own Failed Fault a b counts same = record {
+pub counts_as : (own : Option ℕ) (Failed Fault : Type 0) (a b : Ids) → Counts own Failed a b → (Fault → Failed) → (Failed → Fault)
+    → Counts own Fault a b
+counts_as own Failed Fault a b counts same back = record {
   later = counts.later;
   failed = λ f. counts.failed (same f);
+  calm = λ none. counts.calm (λ f. none (back f));
   counts = counts.counts;
 }
 
@@ -44,13 +47,15 @@ pub counts_same : (own : Option ℕ) (Failed : Type 0) (a : Ids) → (Failed →
 counts_same own Failed a fine = record {
   later = λ k. omega arith;
   failed = λ f. absurd (fine f);
+  calm = λ none. refl;
   counts = λ k other. refl;
 }
 
-pub counts_struck : (i : ℕ) (Failed : Type 0) (a : Ids) → i < length a.faults → Counts (Some i) Failed a (struck i a)
-counts_struck i Failed a lt = record {
+pub counts_struck : (i : ℕ) (Failed : Type 0) (a : Ids) → Failed → i < length a.faults → Counts (Some i) Failed a (struck i a)
+counts_struck i Failed a fault lt = record {
   later = later;
   failed = λ f. rose;
+  calm = λ none. absurd (none fault);
   counts = others;
 }
   where
@@ -68,10 +73,11 @@ counts_struck i Failed a lt = record {
     others None other = refl
     others (Some k) other = let apart : k ≢ i = λ same. other (ap Some same) in get_or-set_other a.faults i k (one_more (get_or a.faults i 0)) 0 apart
 
-pub counts_struck_own : (Failed : Type 0) (a : Ids) → Counts None Failed a (struck_own a)
-counts_struck_own Failed a = record {
+pub counts_struck_own : (Failed : Type 0) (a : Ids) → Failed → Counts None Failed a (struck_own a)
+counts_struck_own Failed a fault = record {
   later = later;
   failed = λ f. one_more-rose a.own;
+  calm = λ none. absurd (none fault);
   counts = others;
 }
   where
@@ -87,6 +93,7 @@ pub counts_added : (Failed : Type 0) (name : List ℕ) (a : Ids) → (Failed →
 counts_added Failed name a fine = record {
   later = λ k. omega (arith, same k);
   failed = λ f. absurd (fine f);
+  calm = λ none. refl;
   counts = λ k other. same k;
 }
   where

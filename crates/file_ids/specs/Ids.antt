@@ -63,4 +63,5 @@ told ids moment honest files = record {
 pub record Counts (own : Option ℕ) (Failed : Type 0) (a b : Ids) : Type 0 where
   pub later : (k : Option ℕ) → counts_of a.own a.faults k ≤ counts_of b.own b.faults k
   pub failed : Failed → Rose (counts_of a.own a.faults own) (counts_of b.own b.faults own)
+  pub calm : ¬ Failed → counts_of b.own b.faults own ≡ counts_of a.own a.faults own
   pub counts : (k : Option ℕ) → k ≢ own → counts_of b.own b.faults k ≡ counts_of a.own a.faults k

@@ -68,7 +68,7 @@ asked_same name a b (Err Failed) is = same_ids a b (ap (λ (h : Held). h.ids.nam
 pub asked_calls : (name : List ℕ) (a b : Held) (r : Result FileId FileStop) → IsSound a → Asked name a b r → Calls true None (r ≡ Err Failed) (λ _. ⊥) (view a) (view b)
 asked_calls name a b (Ok id) sound is = file_call_ok _ name a b (λ same. (cc)) sound is.known is.new
 asked_calls name a b (Err NoMemory) sound is = file_call_none _ a b (λ same. (cc)) (is.no_memory refl)
-asked_calls name a b (Err Failed) sound is = file_call_failed _ a b (is.failed refl)
+asked_calls name a b (Err Failed) sound is = file_call_failed _ a b refl (is.failed refl)
 
 -- a fact of a value that an equal list has
 pub if_len : {E : Type 0} (r : Result ℕ E) (f g : List ℕ) → g ≡ f → IfOk r (λ n. n ≡ length f) → IfOk r (λ n. n ≡ length g)

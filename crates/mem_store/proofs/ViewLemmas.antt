@@ -37,16 +37,16 @@ put_here op i w x h lt sound =
     rw (place, get_or-set_same) refl
 
 -- a call on a file that fails
-fault_call : (op : Op) (i : ℕ) (Failed : Type 0) (Changed : List ℕ → Type 0) (h : Held) → i < length h.ids.names → IsSound h → Calls true (Some i) Failed Changed (view h) (view (after_fault op i h))
-fault_call op i Failed Changed h lt sound =
-    calls_told _ _ _ _ _ _ _ _ _ _ _ (counts_struck i Failed h.ids (omega (arith, sound.ids.faults))) (one_more-later h.calls) (λ told q other. refl)
+fault_call : (op : Op) (i : ℕ) (Failed : Type 0) (Changed : List ℕ → Type 0) (h : Held) → Failed → i < length h.ids.names → IsSound h → Calls true (Some i) Failed Changed (view h) (view (after_fault op i h))
+fault_call op i Failed Changed h fault lt sound =
+    calls_told _ _ _ _ _ _ _ _ _ _ _ (counts_struck i Failed h.ids fault (omega (arith, sound.ids.faults))) (one_more-later h.calls) (λ told q other. refl)
 
 pub looks_call : {T E : Type 0} (op : Op) (i : ℕ) (a b : Held) (r : Result T E) → Looks op i a b r → IsSound a → i < length a.ids.names → Calls true (Some i) (IsErr r) (λ _. ⊥) (view a) (view b)
 looks_call op i a b (Ok x) answers sound lt =
     subst (λ (h : Held). Calls true (Some i) (false ≡ true) (λ _. ⊥) (view a) (view h)) (sym answers.ok)
     (calls_told _ _ _ _ _ _ _ _ _ _ _ (counts_same (Some i) (false ≡ true) a.ids false≢true) (one_more-later a.calls) (λ told q other. refl))
 looks_call op i a b (Err e) answers sound lt =
-    subst (λ (h : Held). Calls true (Some i) (true ≡ true) (λ _. ⊥) (view a) (view h)) (sym answers.err) (fault_call op i (true ≡ true) (λ _. ⊥) a lt sound)
+    subst (λ (h : Held). Calls true (Some i) (true ≡ true) (λ _. ⊥) (view a) (view h)) (sym answers.err) (fault_call op i (true ≡ true) (λ _. ⊥) a refl lt sound)
 
 pub changes_call : {T E : Type 0} (op : Op) (i w : ℕ) (x : List ℕ) (a b : Held) (r : Result T E) → Changes op i a (record (put i x (counted op i a)) { written = w }) b r → IsSound a → i < length a.ids.names
     → Calls true (Some i) (IsErr r) (λ q. q ≡ (view a).names i) (view a) (view b)
@@ -54,7 +54,7 @@ changes_call op i w x a b (Ok y) answers sound lt =
     subst (λ (h : Held). Calls true (Some i) (false ≡ true) (λ q. q ≡ (view a).names i) (view a) (view h)) (sym answers.ok)
     (calls_told _ _ _ _ _ _ _ _ _ _ _ (counts_same (Some i) (false ≡ true) a.ids false≢true) (one_more-later a.calls) (λ told. put_others i x a lt))
 changes_call op i w x a b (Err e) answers sound lt =
-    subst (λ (h : Held). Calls true (Some i) (true ≡ true) (λ q. q ≡ (view a).names i) (view a) (view h)) (sym answers.err) (fault_call op i (true ≡ true) (λ q. q ≡ (view a).names i) a lt sound)
+    subst (λ (h : Held). Calls true (Some i) (true ≡ true) (λ q. q ≡ (view a).names i) (view a) (view h)) (sym answers.err) (fault_call op i (true ≡ true) (λ q. q ≡ (view a).names i) a refl lt sound)
 
 -- no call on a file changes a name
 pub answers_names : {T E : Type 0} (F : Type 0) (op : Op) (i : ℕ) (done a b : Held) (r : Result T E) → Answers F done (after_fault op i a) b r → done.ids.names ≡ a.ids.names → b.ids.names ≡ a.ids.names
@@ -106,10 +106,10 @@ file_call_ok Failed name a b fine sound known new = elim (cases_lt (place_of nam
       subst (λ (h : Held). Calls true None Failed (λ _. ⊥) (view a) (view h)) (sym (new absent)) (added_call Failed name a fine sound)
 ]
 
-pub file_call_failed : (Failed : Type 0) (a b : Held) → b ≡ after_file_fault a → Calls true None Failed (λ _. ⊥) (view a) (view b)
-file_call_failed Failed a b is =
+pub file_call_failed : (Failed : Type 0) (a b : Held) → Failed → b ≡ after_file_fault a → Calls true None Failed (λ _. ⊥) (view a) (view b)
+file_call_failed Failed a b fault is =
     subst (λ (h : Held). Calls true None Failed (λ _. ⊥) (view a) (view h)) (sym is)
-    (calls_told _ _ _ _ _ _ _ _ _ _ _ (counts_struck_own Failed a.ids) (one_more-later a.calls) (λ told q other. refl))
+    (calls_told _ _ _ _ _ _ _ _ _ _ _ (counts_struck_own Failed a.ids fault) (one_more-later a.calls) (λ told q other. refl))
 
 pub file_call_none : (Failed : Type 0) (a b : Held) → (Failed → ⊥) → b ≡ asked a → Calls true None Failed (λ _. ⊥) (view a) (view b)
 file_call_none Failed a b fine is = subst (λ (h : Held). Calls true None Failed (λ _. ⊥) (view a) (view h)) (sym is) (asked_call Failed a fine)

@@ -1,5 +1,5 @@
 -- What follows from counts of faults that none fell.
-use Rattle.std.proofs.Common.{ℕ, ◌+◌, ◌-◌, ◌^◌, ◌≤◌, min, arith}
+use Rattle.std.proofs.Common.{ℕ, ◌≤◌, arith}
 use Rattle.outside.specs.Causes.{Rose, Counts, NoneFell, OneRose}
 
 -- a count that rose later has risen since before

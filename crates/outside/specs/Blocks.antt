@@ -1,6 +1,6 @@
 -- Where the blocks of a file lie: blocks, and the regions with their ends.
 -- Cited by what says which tree a file's bytes hold, and by what takes, reads and writes blocks.
-use Rattle.std.specs.Prelude.{◌≡◌, ℕ, ◌+◌, ◌≤◌, ◌<◌, ◌==◌, ◌⊎◌, max, List, [], ◌∷◌, length, Option, if◌then◌else◌}
+use Rattle.std.specs.Prelude.{◌≡◌, ℕ, ◌+◌, ◌≤◌, ◌<◌, ◌==◌, ◌⊎◌, max, List, [], ◌∷◌, ◌++◌, length, Option, if◌then◌else◌}
 use Rattle.std.specs.List.{Contains}
 use Rattle.outside.specs.Array.{Array, Ends}
 use Rattle.h5_base.specs.declared.extent.MemClass.{MemClass}
@@ -98,3 +98,11 @@ pub data IsBlockRefused (e : Bounds) (met : List Block) (x : Block) (kind : Bloc
 pub record IsPlacedRefused (e : Bounds) (met : List Block) (at len : ℕ) (kind : BlockKind) (r : Refusal) : Type 0 where
   pub some : 0 < len
   pub refused : IsBlockRefused e met (record { start = at; len = len }) kind r
+
+-- ---- what was taken before
+
+-- The blocks are taken after those that were met before: all are kept together, and they aren't too many. A refusal
+-- comes only behind blocks that were taken.
+pub record AreTaken (e : Bounds) (met own : List Block) : Type 0 where
+  pub kept : AreKept e (met ++ own)
+  pub few : length (met ++ own) ≤ most_blocks

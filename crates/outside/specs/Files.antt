@@ -65,7 +65,3 @@ pub record Snapshot : Type 0 where
   pub moment : ℕ
   pub image : Files
   pub readings : List Files
-
--- one of the snapshots of moment m and later
-abbrev pub Since : (Snapshot → Type 0) → ℕ → Snapshot → Type 0
-Since past m snapshot = past snapshot × (m ≤ snapshot.moment)

@@ -1,11 +1,9 @@
 -- What a layer tells over the files of a store, and what each of its calls leaves of them.
 -- Cited by `Layer`, by each layer, and by whatever works on one.
-use Rattle.std.specs.Prelude.{◌≡◌, ◌≢◌, ◌⊎◌, ℕ, ◌+◌, ◌<◌, ◌≤◌, Bool, IsTrue, List, length, Option, Some, None, Result}
-use Rattle.std.specs.Prelude.{OnErr, IsErrOf}
+use Rattle.std.specs.Prelude.{◌≡◌, ◌⊎◌, ℕ, ◌<◌, ◌≤◌, Bool, IsTrue, List, [], ◌∷◌, length, Option, Some, None}
 use Rattle.std.specs.List.{Contains}
 use Rattle.h5_base.specs.declared.extent.MemClass.{MemClass}
 use Rattle.h5_base.specs.declared.extent.Region.{Region}
-use Rattle.outside.specs.Array.{Ends}
 use Rattle.outside.specs.Causes.{Rose}
 use Rattle.outside.specs.Files.{Files}
 use Rattle.outside.specs.Store.{View}
@@ -17,11 +15,6 @@ pub record LayerShape : Type 0 where
   pub files : List (List ℕ)
   pub blamed : List (List ℕ)
   pub copied : List (List ℕ)
-
--- n bytes from an address on lie in the region of a class, below its end
-pub record LiesWithin (shape : LayerShape) (ends : Ends) (class : MemClass) (at n : ℕ) : Type 0 where
-  pub low : (shape.regions class).start ≤ at
-  pub high : at + n ≤ ends class
 
 -- the files are the same in those of the layer
 abbrev pub SameIn : List (List ℕ) → Files → Files → Type 0
@@ -36,6 +29,14 @@ pub record RoseIn (own : List (List ℕ)) (old new : View) : Type 0 where
   pub id : ℕ
   pub file : Contains own (old.names id)
   pub rose : Rose (old.counts (Some id)) (new.counts (Some id))
+
+-- the counts of these files are as they were
+abbrev pub StayIn : List (List ℕ) → View → View → Type 0
+StayIn own old new = (id : ℕ) → Contains own (old.names id) → new.counts (Some id) ≡ old.counts (Some id)
+
+-- Each file that lasted after a settle still does, but one whose count rose.
+abbrev pub LastOn : List (List ℕ) → List (List ℕ) → View → View → Type 0
+LastOn before now old new = (q : List ℕ) → Contains before q → Contains now q ⊎ RoseIn (q ∷ []) old new
 
 -- No count falls, and those of other files stay.
 pub record KeepsCounts (shape : LayerShape) (old new : View) : Type 0 where

@@ -1,6 +1,6 @@
 -- The time of a revision as it is stored: `YYYYMMDDThhmmssZ` in UTC.
 -- Cited by what a commit makes.
-use Rattle.std.specs.Prelude.{◌≡◌, ℕ, ◌+◌, ◌*◌, ◌/◌, ◌%◌, ◌<◌, ◌≤◌, ℤ, pos, List, [], ◌∷◌, ◌++◌}
+use Rattle.std.specs.Prelude.{◌≡◌, ℕ, ◌+◌, ◌/◌, ◌%◌, ◌≤◌, ℤ, pos, List, [], ◌∷◌, ◌++◌}
 use Rattle.jiff_core.specs.Calendar.{IsCivilDate, days_from_civil}
 
 -- the moments that have a time: the years from 1970 to 9999, in seconds from 1970 on

@@ -1,6 +1,6 @@
 -- Pages of one size, by the addresses of their first bytes: lists of them in strictly ascending order.
 -- Cited by what a space with revisions tells, and by whatever copies, counts or records pages.
-use Rattle.std.specs.Prelude.{◌⊎◌, ◌↔◌, ℕ, ◌+◌, ◌*◌, ◌%◌, ◌<◌, ◌≤◌, ◌≡◌, List}
+use Rattle.std.specs.Prelude.{◌⊎◌, ◌↔◌, ℕ, ◌+◌, ◌%◌, ◌<◌, ◌≡◌, List}
 use Rattle.std.specs.List.{Contains}
 use Rattle.std.specs.List.Sorted.{IsStrictlyIncreasing}
 use Rattle.h5_base.specs.declared.extent.Extent.{Extent}

@@ -1,12 +1,12 @@
 -- The revisions that a space has committed, and what one more commit makes of them.
 -- Cited by `Space`, and by whatever commits, opens or lists revisions.
-use Rattle.std.specs.Prelude.{◌≡◌, ◌⊎◌, ℕ, ◌+◌, ◌*◌, ◌^◌, ◌<◌, ◌≤◌, min, ℤ, pos, List, [], ◌∷◌, ◌++◌, length}
+use Rattle.std.specs.Prelude.{◌≡◌, ◌⊎◌, ℕ, ◌+◌, ◌*◌, ◌<◌, ◌≤◌, min, ℤ, pos, List, [], ◌∷◌, ◌++◌, length}
 use Rattle.std.specs.List.{Contains}
 use Rattle.h5_base.specs.declared.extent.MemClass.{MemClass}
 use Rattle.h5_base.specs.declared.extent.Region.{Region}
 use Rattle.outside.specs.Array.{Array, Ends}
 use Rattle.outside.specs.Moments.{IsTimeOf}
-use Rattle.outside.specs.Pages.{IsMet, ArePages, OfEither}
+use Rattle.outside.specs.Pages.{ArePages, OfEither}
 
 -- a revision: its number, comment and time, the end of all that it holds, the end of each class, and its bytes
 pub record Revision : Type 0 where

@@ -1,15 +1,16 @@
 -- What a space tells, and what each of its calls leaves of it.
 -- Cited by `Space`, by each space, and by whatever works on one.
-use Rattle.std.specs.Prelude.{◌≡◌, ◌⊎◌, ◌↔◌, ℕ, ◌+◌, ◌-◌, ◌*◌, ◌^◌, ◌<◌, ◌≤◌, ◌==◌, ◌&&◌, Bool, true, false, IsTrue}
-use Rattle.std.specs.Prelude.{ℤ, List, [], ◌∷◌, ◌++◌, length, replicate, Option, Some, None, Result, OnOk, OnErr}
+use Rattle.std.specs.Prelude.{◌≡◌, ◌⊎◌, ◌↔◌, ℕ, ◌+◌, ◌-◌, ◌*◌, ◌%◌, ◌^◌, ◌<◌, ◌≤◌, ◌==◌, ◌&&◌, Bool}
+use Rattle.std.specs.Prelude.{IsTrue, ℤ, List, [], ◌∷◌, length, replicate, Option, Some, None, Result}
 use Rattle.std.specs.Prelude.{IsErrOf, if◌then◌else◌}
 use Rattle.std.specs.List.{Contains}
+use Rattle.std.specs.List.Sorted.{IsStrictlyIncreasing}
 use Rattle.h5_base.specs.declared.extent.MemClass.{MemClass}
 use Rattle.h5_base.specs.declared.extent.Region.{Region}
 use Rattle.h5_base.specs.declared.extent.Extent.{Extent}
-use Rattle.outside.specs.Array.{Array, Ends, over, SameOutside}
+use Rattle.outside.specs.Array.{Array, Ends, over}
 use Rattle.outside.specs.Blocks.{Bounds}
-use Rattle.outside.specs.Causes.{Rose, Counts, NoneFell, OneRose}
+use Rattle.outside.specs.Causes.{Counts, OneRose}
 use Rattle.outside.specs.Moments.{HasTime}
 use Rattle.outside.specs.Pages.{ArePages, OrMet, OrMetByOne, OfEither}
 use Rattle.outside.specs.Revisions.{Stored, Committed, History, end_after, Commits, Appends}
@@ -46,15 +47,28 @@ pub record AreRegions (regions : MemClass → Region) (ends : Ends) : Type 0 whe
   pub apart : (c d : MemClass) → ((regions c ≡ regions d) × (ends c ≡ ends d))
       ⊎ ((regions c).limit ≤ (regions d).start) ⊎ ((regions d).limit ≤ (regions c).start)
 
--- What a space tells is sound: its regions are, and where its bytes are told, as many revisions as it has.
+-- What is told of revisions is sound: a page has 2^6 to 2^20 bytes, there is revision 0 and at most 65,535 behind it,
+-- in at most 2^48 bytes, and the pages ascend, each at a multiple of their size.
+pub record AreSound (c : Committed) : Type 0 where
+  pub power : (k : ℕ) × (6 ≤ k) × (k ≤ 20) × (c.page ≡ 2 ^ k)
+  pub first : 1 ≤ c.count
+  pub most : c.count ≤ 65536
+  pub short : c.committed_end ≤ 2 ^ 48
+  pub recorded : IsStrictlyIncreasing c.recorded
+  pub written : IsStrictlyIncreasing c.written
+  pub whole : (p : ℕ) → Contains c.recorded p ⊎ Contains c.written p → p % c.page ≡ 0
+
+-- What a space tells is sound: its regions are, and what it tells of its revisions; and where its bytes are told, it
+-- has as many revisions as it counts.
 pub record IsSound (tells : Bool) (v : SpaceView) : Type 0 where
   pub regions : AreRegions v.regions v.ends
+  pub revisions : (c : Committed) → v.committed ≡ Some c → AreSound c
   pub counted : IsTrue tells → (c : Committed) → v.committed ≡ Some c → c.count ≡ length v.history.revisions
 
 -- n bytes from an address on lie in the region of a class, below its end
-pub record LiesIn (v : SpaceView) (class : MemClass) (at n : ℕ) : Type 0 where
-  pub low : (v.regions class).start ≤ at
-  pub high : at + n ≤ v.ends class
+pub record LiesIn (regions : MemClass → Region) (ends : Ends) (class : MemClass) (at n : ℕ) : Type 0 where
+  pub low : (regions class).start ≤ at
+  pub high : at + n ≤ ends class
 
 -- each of the n addresses is in one of the ranges
 abbrev pub AreCovered : List Extent → ℕ → ℕ → Type 0
@@ -102,6 +116,13 @@ pub record Wrote (at : ℕ) (bytes : List ℕ) (old new : SpaceView) : Type 0 wh
   pub array : new.array ≡ over old.array at bytes
   pub history : new.history ≡ old.history
 
+-- A write that was done leaves this: the bytes, where they are told, and how far the space with revisions has grown.
+pub record IsWritten (tells : Bool) (at : ℕ) (bytes : List ℕ) (old new : SpaceView) : Type 0 where
+  pub wrote : IsTrue tells → Wrote at bytes old new
+  pub pages : TellsWritten at (length bytes) old.committed new.committed
+  pub ends : new.ends ≡ old.ends
+  pub prepared : new.prepared ≡ old.prepared
+
 abbrev pub same_region : Region → Region → Bool
 same_region r s = r.start == s.start && r.limit == s.limit
 
@@ -113,23 +134,34 @@ raised regions ends class end = λ d. if same_region (regions d) (regions class)
 abbrev pub new_bytes : Ends → MemClass → ℕ → List ℕ
 new_bytes ends class end = replicate (end - ends class) 0
 
+-- a raise that was done
+pub record IsRaised (tells : Bool) (class : MemClass) (end : ℕ) (old new : SpaceView) : Type 0 where
+  pub wrote : IsTrue tells → Wrote (old.ends class) (new_bytes old.ends class end) old new
+  pub pages : TellsWritten (old.ends class) (end - old.ends class) old.committed new.committed
+  pub ends : new.ends ≡ raised old.regions old.ends class end
+  pub prepared : new.prepared ≡ old.prepared
+
 -- each range that was given before, and is asked for again, stays given
-pub record StaysGiven (asked : List Extent) (old new : SpaceView) : Type 0 where
-  pub given : (r : Extent) → Contains old.prepared r → Contains asked r → Contains new.prepared r
-  pub others : new ≡ record old { prepared = new.prepared }
+abbrev pub StaysGiven : List Extent → SpaceView → SpaceView → Type 0
+StaysGiven asked old new = (r : Extent) → Contains old.prepared r → Contains asked r → Contains new.prepared r
 
 -- ---- causes
 
--- Each fault comes only where one of its own counts rose.
+-- Each fault comes only where one of its own counts rose, and no fault is passed over: where none is answered, all of
+-- these counts are as they were.
 pub record HasCauses {T : Type 0} (before now copy_before copy_now : Counts) (result : Result T WriteStop) : Type 0
   where
     pub failed : IsErrOf result stop.Failed → OneRose before now
     pub copy_failed : IsErrOf result stop.WoFailed → OneRose copy_before copy_now
+    pub calm : ¬ IsErrOf result stop.Failed → now ≡ before
+    pub copy_calm : ¬ IsErrOf result stop.WoFailed → copy_now ≡ copy_before
 
 pub record CommitCauses {T : Type 0} (before now copy_before copy_now : Counts) (result : Result T CommitStop) : Type 0
   where
     pub failed : IsErrOf result commit_stop.Failed → OneRose before now
     pub copy_failed : IsErrOf result commit_stop.WoFailed → OneRose copy_before copy_now
+    pub calm : ¬ IsErrOf result commit_stop.Failed → now ≡ before
+    pub copy_calm : ¬ IsErrOf result commit_stop.WoFailed → copy_now ≡ copy_before
 
 -- ---- commits
 
@@ -186,10 +218,11 @@ pub record LeavesSame (began : ℕ) (revisions : List Stored) (old new : Lists) 
   pub goes : Continue began old new
   pub only : LeaveOnly began (λ list. list ≡ revisions) new
 
--- the list as it was, or with the revision that the commit makes
+-- the list as it was, or with the revision that the commit makes, where it isn't refused
 pub data MayBeMade (comment : List ℕ) (secs : ℤ) (v : SpaceView) (list : List Stored) : Type 0 where
   Same : list ≡ v.history.revisions → MayBeMade comment secs v list
   More : (before : Committed) (pages : List ℕ) (made : History) → v.committed ≡ Some before
+      → IsRefusal v.committed [] comment secs None
       → ArePages (OfEither before.recorded before.written) pages
       → Appends v.history before.page v.regions v.ends v.array comment secs pages made → list ≡ made.revisions
       → MayBeMade comment secs v list

@@ -1,8 +1,7 @@
 -- What a store tells, and what each of its calls leaves of it.
 -- Cited by `Store`, by each store, and by every function that works on one.
-use Rattle.std.specs.Prelude.{◌≡◌, ◌≢◌, ◌⊎◌, ℕ, ◌+◌, ◌<◌, ◌≤◌, Bool, IsTrue, List, [], ◌∷◌, ◌++◌, length, slice_index}
-use Rattle.std.specs.Prelude.{Option, Some, None}
-use Rattle.std.specs.List.{sum_by}
+use Rattle.std.specs.Prelude.{◌≡◌, ◌≢◌, ◌⊎◌, ℕ, ◌<◌, ◌≤◌, Bool, IsTrue, List, [], ◌∷◌, ◌++◌, length, slice_index}
+use Rattle.std.specs.Prelude.{Option, Some}
 use Rattle.outside.specs.Causes.{Rose}
 use Rattle.outside.specs.Files.{Files, Snapshot}
 
@@ -20,10 +19,6 @@ pub record View : Type 0 where
   pub honest : Bool
   pub files : Files
 
--- all faults so far
-abbrev pub faults : View → ℕ
-faults v = v.counts None + sum_by (λ i. v.counts (Some i)) v.ids
-
 -- The ids given so far differ, and each has a name. No other number has a name or a fault.
 pub record AreIds (v : View) : Type 0 where
   pub differ : (j k : ℕ) → j < length v.ids → k < length v.ids → slice_index v.ids j ≡ slice_index v.ids k → j ≡ k
@@ -31,12 +26,13 @@ pub record AreIds (v : View) : Type 0 where
   pub others : (i : ℕ) → ((k : ℕ) → k < length v.ids → slice_index v.ids k ≢ i) → (v.names i ≡ [])
       × (v.counts (Some i) ≡ 0)
 
--- The common part of each call. `own` is the count that it may raise, `Failed` that it answers a fault,
--- `Changed` holds of the file that it may change.
+-- The common part of each call. `own` is the count that it may raise, and raises where it answers a fault (`Failed`)
+-- alone; `Changed` holds of the file that it may change.
 pub record Calls (tells : Bool) (own : Option ℕ) (Failed : Type 0) (Changed : List ℕ
     → Type 0) (old new : View) : Type 0 where
   pub later : (k : Option ℕ) → old.counts k ≤ new.counts k
   pub failed : Failed → Rose (old.counts own) (new.counts own)
+  pub calm : ¬ Failed → new.counts own ≡ old.counts own
   pub counts : (k : Option ℕ) → k ≢ own → new.counts k ≡ old.counts k
   pub moment : old.moment ≤ new.moment
   pub honest : new.honest ≡ old.honest
@@ -53,6 +49,10 @@ pub record Goes (tells : Bool) (Changed : List ℕ → Type 0) (old new : View) 
 -- one of the counts rose
 abbrev pub SomeRose : View → View → Type 0
 SomeRose old new = (k : Option ℕ) × Rose (old.counts k) (new.counts k)
+
+-- no count changed
+abbrev pub NoneRose : View → View → Type 0
+NoneRose old new = (k : Option ℕ) → new.counts k ≡ old.counts k
 
 -- This name has this id from now on, and had no other. So one name always gets one id, and two names get two.
 pub record Gives (name : List ℕ) (id : ℕ) (old new : View) : Type 0 where
@@ -88,7 +88,3 @@ pub record GoesOver (Changed : List ℕ → Type 0) (leaves new_leaves : Files �
     → Type 0) : Type 0 where
   pub now : (c : Files) → new_leaves c → (d : Files) × leaves d × Agrees Changed d c
   pub since : (s : Snapshot) → new_past s → past s ⊎ ((d : Files) × leaves d × Agrees Changed d s.image)
-
--- The files as they read are the one image that a stop may leave: the store is at rest.
-abbrev pub IsAtRest : View → (Files → Type 0) → Type 0
-IsAtRest v leaves = (c : Files) → leaves c → (q : List ℕ) → c q ≡ v.files q

@@ -6,9 +6,9 @@ ghost use Rattle.h5_base.specs.declared.extent.MemClass.{MemClass};
 ghost use Rattle.outside.specs.Array.{Array, Ends, bytes_of, over, SameOutside};
 ghost use Rattle.outside.specs.Files.{Files, RestsAt};
 ghost use Rattle.outside.specs.Store.{View, Goes, GoesOver};
-ghost use Rattle.outside.specs.Layer.{LayerShape, SameIn, IsOwn, RoseIn, KeepsCounts, LiesWithin, Undisturbed};
-ghost use Rattle.outside.specs.Layer.{AreAmong};
-ghost use Rattle.outside.specs.Space.{Ascend, AreCovered, AreRegions, raised, new_bytes};
+ghost use Rattle.outside.specs.Layer.{LayerShape, SameIn, IsOwn, RoseIn, KeepsCounts, Undisturbed, StayIn};
+ghost use Rattle.outside.specs.Layer.{AreAmong, LastOn};
+ghost use Rattle.outside.specs.Space.{Ascend, AreCovered, AreRegions, LiesIn, raised, new_bytes};
 
 use crate::{Failed, Kept, Store, WriteStop};
 use h5_base::{Extent, MemClass, NoMemory, Region};
@@ -32,7 +32,8 @@ pub trait Layer<S: Store>: Kept {
     /// The ranges last given to `prepare`.
     ghost prepared: { Self → List Extent };
 
-    /// The files that `settle` makes last: all of its files, but for those of a copy that was given up.
+    /// The files that `settle` makes last: all of its files, but for those of a copy that was given up. A file drops
+    /// out only in a call in which its count of faults rose.
     ghost lasting: { Self → List (List ℕ) };
 
     /// It stands on a store: its files have ids there, and what it keeps of them is so.
@@ -51,9 +52,9 @@ pub trait Layer<S: Store>: Kept {
         ensures bytes { IsTrue S.tells_files → OnOk result
             (out.new ≡ bytes_of (array self.old (S.view store.old).files) at (length out.old)) }
         ensures alike { Self.Alike self.old self.new }
-        ensures stands { Stands self.new (S.view store.new) }
-        ensures begun { Begun self.old (S.view store.old) → Begun self.new (S.view store.new) }
         ensures failed { OnErr result (RoseIn (shape self.old).blamed (S.view store.old) (S.view store.new)) }
+        ensures calm { OnOk result (StayIn (shape self.old).blamed (S.view store.old) (S.view store.new)) }
+        ensures copy_calm { StayIn (shape self.old).copied (S.view store.old) (S.view store.new) }
         ensures counts { KeepsCounts (shape self.old) (S.view store.old) (S.view store.new) }
         ensures goes { Goes S.tells_files (λ q. ⊥) (S.view store.old) (S.view store.new) }
         ensures images { IsTrue S.tells_images → GoesOver (λ q. ⊥) (S.leaves store.old) (S.leaves store.new)
@@ -63,7 +64,8 @@ pub trait Layer<S: Store>: Kept {
     fn write(&mut self, store: &mut S, at: u64, bytes: &[u8]) -> Result<(), WriteStop>
         requires begun { Begun self.old (S.view store.old) }
         requires fits { Fits self.old (prepared self.old) }
-        requires inside { (class : MemClass) × LiesWithin (shape self.old) (ends self.old) class at (length bytes.now) }
+        requires inside { (class : MemClass) × LiesIn (shape self.old).regions (ends self.old) class at
+            (length bytes.now) }
         requires covered { AreCovered (prepared self.old) at (length bytes.now) }
         ensures wrote { IsTrue S.tells_files → OnOk result (array self.new (S.view store.new).files
             ≡ over (array self.old (S.view store.old).files) at bytes.now) }
@@ -80,6 +82,11 @@ pub trait Layer<S: Store>: Kept {
             → RoseIn (shape self.old).blamed (S.view store.old) (S.view store.new) }
         ensures copy_failed { IsErrOf result WriteStop.WoFailed
             → RoseIn (shape self.old).copied (S.view store.old) (S.view store.new) }
+        ensures calm { ¬ IsErrOf result WriteStop.Failed
+            → StayIn (shape self.old).blamed (S.view store.old) (S.view store.new) }
+        ensures copy_calm { ¬ IsErrOf result WriteStop.WoFailed
+            → StayIn (shape self.old).copied (S.view store.old) (S.view store.new) }
+        ensures lasting { LastOn (lasting self.old) (lasting self.new) (S.view store.old) (S.view store.new) }
         ensures counts { KeepsCounts (shape self.old) (S.view store.old) (S.view store.new) }
         ensures goes { Goes S.tells_files (IsOwn (shape self.old)) (S.view store.old) (S.view store.new) }
         ensures images { IsTrue S.tells_images → GoesOver (IsOwn (shape self.old)) (S.leaves store.old)
@@ -98,7 +105,13 @@ pub trait Layer<S: Store>: Kept {
         ensures in_part { IsTrue S.tells_files → OnErr result (SameOutside (ends self.old class)
             (end - ends self.old class) (array self.old (S.view store.old).files)
             (array self.new (S.view store.new).files)) }
-        ensures ends { OnOk result (ends self.new ≡ raised (shape self.old).regions (ends self.old) class end) }
+        ensures raised_main { IsTrue S.tells_files → IsErrOf result WriteStop.WoFailed
+            → array self.new (S.view store.new).files ≡ over (array self.old (S.view store.old).files)
+            (ends self.old class) (new_bytes (ends self.old) class end) }
+        ensures ends { ¬ IsErrOf result WriteStop.Failed
+            → ends self.new ≡ raised (shape self.old).regions (ends self.old) class end }
+        ensures ends_in_part { (other : MemClass)
+            → ends self.new other ≤ raised (shape self.old).regions (ends self.old) class end other }
         ensures shape { shape self.new ≡ shape self.old }
         ensures prepared { prepared self.new ≡ prepared self.old }
         ensures begun { OnOk result (Begun self.new (S.view store.new)) }
@@ -107,6 +120,11 @@ pub trait Layer<S: Store>: Kept {
             → RoseIn (shape self.old).blamed (S.view store.old) (S.view store.new) }
         ensures copy_failed { IsErrOf result WriteStop.WoFailed
             → RoseIn (shape self.old).copied (S.view store.old) (S.view store.new) }
+        ensures calm { ¬ IsErrOf result WriteStop.Failed
+            → StayIn (shape self.old).blamed (S.view store.old) (S.view store.new) }
+        ensures copy_calm { ¬ IsErrOf result WriteStop.WoFailed
+            → StayIn (shape self.old).copied (S.view store.old) (S.view store.new) }
+        ensures lasting { LastOn (lasting self.old) (lasting self.new) (S.view store.old) (S.view store.new) }
         ensures counts { KeepsCounts (shape self.old) (S.view store.old) (S.view store.new) }
         ensures goes { Goes S.tells_files (IsOwn (shape self.old)) (S.view store.old) (S.view store.new) }
         ensures images { IsTrue S.tells_images → GoesOver (IsOwn (shape self.old)) (S.leaves store.old)
@@ -121,6 +139,7 @@ pub trait Layer<S: Store>: Kept {
         ensures array { array self.new ≡ array self.old }
         ensures ends { ends self.new ≡ ends self.old }
         ensures shape { shape self.new ≡ shape self.old }
+        ensures lasting { lasting self.new ≡ lasting self.old }
         ensures stands { (v : View) → Stands self.old v → Stands self.new v }
         ensures begun { (v : View) → Begun self.old v → Begun self.new v }
         ensures fits { (rs : List Extent) → Fits self.old rs → Fits self.new rs };
@@ -138,10 +157,18 @@ pub trait Layer<S: Store>: Kept {
         ensures fits { OnOk result ((rs : List Extent) → Fits self.old rs → Fits self.new rs) }
         ensures lasts { IsTrue S.tells_images → IsTrue (S.view store.old).honest → OnOk result ((q : List ℕ)
             → Contains (lasting self.new) q → RestsAt q ((S.view store.new).files q) (S.leaves store.new)) }
+        ensures lasts_main { IsTrue S.tells_images → IsTrue (S.view store.old).honest
+            → IsErrOf result WriteStop.WoFailed → (q : List ℕ) → Contains (shape self.old).blamed q
+            → RestsAt q ((S.view store.new).files q) (S.leaves store.new) }
         ensures failed { IsErrOf result WriteStop.Failed
             → RoseIn (shape self.old).blamed (S.view store.old) (S.view store.new) }
         ensures copy_failed { IsErrOf result WriteStop.WoFailed
             → RoseIn (shape self.old).copied (S.view store.old) (S.view store.new) }
+        ensures calm { ¬ IsErrOf result WriteStop.Failed
+            → StayIn (shape self.old).blamed (S.view store.old) (S.view store.new) }
+        ensures copy_calm { ¬ IsErrOf result WriteStop.WoFailed
+            → StayIn (shape self.old).copied (S.view store.old) (S.view store.new) }
+        ensures lasting { LastOn (lasting self.old) (lasting self.new) (S.view store.old) (S.view store.new) }
         ensures counts { KeepsCounts (shape self.old) (S.view store.old) (S.view store.new) }
         ensures goes { Goes S.tells_files (λ q. ⊥) (S.view store.old) (S.view store.new) }
         ensures images { IsTrue S.tells_images → (c : Files) → S.leaves store.new c → S.leaves store.old c }
@@ -159,6 +186,11 @@ pub trait Layer<S: Store>: Kept {
         → (array a ≡ array b) × (ends a ≡ ends b) × (shape a ≡ shape b) × (prepared a ≡ prepared b) };
 
     ghost alike_lasting: { (a b : Self) → Self.Alike a b → lasting a ≡ lasting b };
+
+    /// What a read leaves stands, has begun and fits as before.
+    ghost alike_stands: { (a b : Self) → Self.Alike a b → (v : View) → Stands a v → Stands b v };
+
+    ghost alike_begun: { (a b : Self) → Self.Alike a b → (v : View) → Begun a v → Begun b v };
 
     ghost alike_fits: { (a b : Self) → Self.Alike a b → (rs : List Extent) → Fits a rs → Fits b rs };
 

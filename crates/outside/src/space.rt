@@ -3,9 +3,9 @@ ghost use Rattle.std.specs.Prelude.{IsTrue, IsErrOf, IfOk, OnOk, OnErr, Result};
 ghost use Rattle.outside.specs.Array.{bytes_of, over, SameOutside};
 ghost use Rattle.outside.specs.Causes.{Counts, NoneFell, OneRose};
 ghost use Rattle.outside.specs.Revisions.{Stored};
-ghost use Rattle.outside.specs.Space.{SpaceView, LiesIn, IsReady, HasRoom, Ascend, SameKind, Wrote, StaysGiven};
+ghost use Rattle.outside.specs.Space.{SpaceView, LiesIn, IsReady, HasRoom, Ascend, SameKind, IsWritten, IsRaised};
 ghost use Rattle.outside.specs.Space.{HasCauses, IsRefusal, IsCommitted, CommitCauses, Continue, LeaveOnly, LeavesSame};
-ghost use Rattle.outside.specs.Space.{MayBeMade, IsSound, TellsWritten, raised, new_bytes};
+ghost use Rattle.outside.specs.Space.{StaysGiven, MayBeMade, IsSound, raised, new_bytes};
 
 use crate::{Failed, Kept};
 use h5_base::{Comment, Extent, MemClass, NoMemory, Region};
@@ -50,11 +50,11 @@ pub enum CommitStop {
 ///
 /// The calls that write need room: they write within the ranges that `prepare` was last given, and take no memory.
 /// After `Failed` or `WoFailed` of a call that writes it may no longer stand, and then no further call may be made.
+/// What such calls leave besides what each says of itself are laws of what they left, likewise.
 ///
 /// Who only reads leaves an alike space, also after a fault; the laws say what that is: it tells the same, stands,
-/// rests
-/// and is steady as before, and its counts of faults went on from there. So code that reads carries that one fact, and
-/// one cause.
+/// rests and is steady as before, and its counts of faults went on from there. So code that reads carries that one
+/// fact, and one cause: a fault is answered only where a count rose, and where none is answered none did.
 pub trait Space: Kept {
     /// It tells its bytes.
     ghost tells: { Bool };
@@ -68,7 +68,8 @@ pub trait Space: Kept {
     /// It stands: its calls may be made.
     ghost Stands: { Self → Type 0 };
 
-    /// The faults of each of its files, other than those of a strict splitter's copy.
+    /// The faults of each of the files whose faults it answers as its own. Those of a splitter's copy aren't among
+    /// them.
     ghost faults: { Self → Counts };
 
     /// The faults of each file of a strict splitter's copy.
@@ -81,9 +82,15 @@ pub trait Space: Kept {
     ghost moment: { Self → ℕ };
 
     /// The second came from the first by calls, whatever they answered: it keeps its bytes in the same files, and
-    /// nothing
-    /// else of the outside has changed.
+    /// nothing else of the outside has changed.
     ghost GoesOn: { Self → Self → Type 0 };
+
+    /// The second is what `prepare` left of the first: the ranges given may differ, and nothing else.
+    ghost Readied: { Self → Self → Type 0 };
+
+    /// The second is what calls of `prepare`, `write`, `raise` and `settle` left of the first, all of them done but at
+    /// most the last.
+    ghost Edited: { Self → Self → Type 0 };
 
     /// Every image that a stop now may leave has just the committed revisions.
     ghost Steady: { Self → Type 0 };
@@ -97,31 +104,27 @@ pub trait Space: Kept {
         requires fits { at + length out.old ≤ 2 ^ 64 }
         ensures bytes { IsTrue tells → OnOk result (out.new ≡ bytes_of (view self.old).array at (length out.old)) }
         ensures alike { Self.Alike self.old self.new }
-        ensures failed { OnErr result (OneRose (faults self.old) (faults self.new)) };
+        ensures failed { OnErr result (OneRose (faults self.old) (faults self.new)) }
+        ensures calm { OnOk result (faults self.new ≡ faults self.old) };
 
     /// Writes the bytes from `at` on, a range within one region below its end. After `Failed` the bytes in the range
     /// may be any; after `WoFailed` they are written.
     fn write(&mut self, at: u64, bytes: &[u8]) -> Result<(), WriteStop>
         requires stands { Stands self.old }
-        requires inside { (class : MemClass) × LiesIn (view self.old) class at (length bytes.now) }
+        requires inside { (class : MemClass) × LiesIn (view self.old).regions (view self.old).ends class at
+            (length bytes.now) }
         requires ready { IsReady (view self.old) at (length bytes.now) }
-        ensures wrote { IsTrue tells → OnOk result (Wrote at bytes.now (view self.old) (view self.new)) }
-        ensures pages { OnOk result
-            (TellsWritten at (length bytes.now) (view self.old).committed (view self.new).committed) }
+        ensures done { OnOk result (IsWritten tells at bytes.now (view self.old) (view self.new)) }
         ensures wrote_main { IsTrue tells → IsErrOf result WriteStop.WoFailed
             → (view self.new).array ≡ over (view self.old).array at bytes.now }
         ensures in_part { IsTrue tells → IsErrOf result WriteStop.Failed
             → SameOutside at (length bytes.now) (view self.old).array (view self.new).array }
         ensures ends { (view self.new).ends ≡ (view self.old).ends }
-        ensures same { OnOk result ((view self.new).prepared ≡ (view self.old).prepared) }
-        ensures kind { SameKind (view self.old) (view self.new) }
         ensures stands { OnOk result (Stands self.new) }
         ensures cause { HasCauses (faults self.old) (faults self.new) (copy_faults self.old) (copy_faults self.new)
             result }
         ensures steady { IsTrue tells_stops → Steady self.old → OnOk result (Steady self.new) }
-        ensures stops { IsTrue tells_stops → Steady self.old → LeavesSame (moment self.old)
-            (view self.old).history.revisions (Leaves self.old) (Leaves self.new) }
-        ensures goes { GoesOn self.old self.new };
+        ensures edited { Edited self.old self.new };
 
     /// Moves the end of a region up to `end`, which is at most its limit. The new bytes read as 0.
     fn raise(&mut self, class: MemClass, end: u64) -> Result<(), WriteStop>
@@ -129,39 +132,28 @@ pub trait Space: Kept {
         requires up { (view self.old).ends class ≤ end }
         requires below { end ≤ ((view self.old).regions class).limit }
         requires ready { IsReady (view self.old) ((view self.old).ends class) (end - (view self.old).ends class) }
-        ensures raised { IsTrue tells → OnOk result (Wrote ((view self.old).ends class)
-            (new_bytes (view self.old).ends class end) (view self.old) (view self.new)) }
-        ensures pages { OnOk result (TellsWritten ((view self.old).ends class) (end - (view self.old).ends class)
-            (view self.old).committed (view self.new).committed) }
+        ensures done { OnOk result (IsRaised tells class end (view self.old) (view self.new)) }
+        ensures raised_main { IsTrue tells → IsErrOf result WriteStop.WoFailed → (view self.new).array
+            ≡ over (view self.old).array ((view self.old).ends class) (new_bytes (view self.old).ends class end) }
+        ensures ends_main { IsErrOf result WriteStop.WoFailed
+            → (view self.new).ends ≡ raised (view self.old).regions (view self.old).ends class end }
         ensures in_part { IsTrue tells → OnErr result (SameOutside ((view self.old).ends class)
             (end - (view self.old).ends class) (view self.old).array (view self.new).array) }
-        ensures ends { OnOk result
-            ((view self.new).ends ≡ raised (view self.old).regions (view self.old).ends class end) }
-        ensures same { OnOk result ((view self.new).prepared ≡ (view self.old).prepared) }
-        ensures kind { SameKind (view self.old) (view self.new) }
+        ensures ends_in_part { (other : MemClass) → (view self.new).ends other
+            ≤ raised (view self.old).regions (view self.old).ends class end other }
         ensures stands { OnOk result (Stands self.new) }
         ensures cause { HasCauses (faults self.old) (faults self.new) (copy_faults self.old) (copy_faults self.new)
             result }
         ensures steady { IsTrue tells_stops → Steady self.old → OnOk result (Steady self.new) }
-        ensures stops { IsTrue tells_stops → Steady self.old → LeavesSame (moment self.old)
-            (view self.old).history.revisions (Leaves self.old) (Leaves self.new) }
-        ensures goes { GoesOn self.old self.new };
+        ensures edited { Edited self.old self.new };
 
     /// Makes room for writes and raises in these ranges, in ascending order of their starts, and for no others.
     fn prepare(&mut self, ranges: &Vec<Extent>) -> Result<(), NoMemory>
         requires stands { Stands self.old }
         requires ascend { Ascend ranges.now.items }
-        ensures prepared { OnOk result (view self.new ≡ record (view self.old) { prepared = ranges.now.items }) }
-        ensures kept { OnErr result (StaysGiven ranges.now.items (view self.old) (view self.new)) }
-        ensures stands { Stands self.new }
-        ensures faults { faults self.new ≡ faults self.old }
-        ensures copy { copy_faults self.new ≡ copy_faults self.old }
-        ensures rests { Rests self.old → Rests self.new }
-        ensures moment { moment self.new ≡ moment self.old }
-        ensures steady { IsTrue tells_stops → Steady self.old → Steady self.new }
-        ensures goes { GoesOn self.old self.new }
-        ensures past { IsTrue tells_stops → (m : ℕ) (list : List Stored) → Leaves self.new m list
-            → Leaves self.old m list };
+        ensures prepared { OnOk result ((view self.new).prepared ≡ ranges.now.items) }
+        ensures given { OnErr result (StaysGiven ranges.now.items (view self.old) (view self.new)) }
+        ensures readied { Readied self.old self.new };
 
     /// Makes all files last as they read. What they read stays, also after a fault.
     fn settle(&mut self) -> Result<(), WriteStop>
@@ -170,16 +162,13 @@ pub trait Space: Kept {
         ensures same { OnOk result (view self.new ≡ view self.old) }
         ensures array { IsTrue tells → (view self.new).array ≡ (view self.old).array }
         ensures ends { (view self.new).ends ≡ (view self.old).ends }
-        ensures kind { SameKind (view self.old) (view self.new) }
         ensures stands { OnOk result (Stands self.new) }
         ensures rests { OnOk result (Rests self.new) }
         ensures rests_still { Rests self.old → Rests self.new }
         ensures cause { HasCauses (faults self.old) (faults self.new) (copy_faults self.old) (copy_faults self.new)
             result }
         ensures steady { IsTrue tells_stops → Steady self.old → OnOk result (Steady self.new) }
-        ensures stops { IsTrue tells_stops → Steady self.old → LeavesSame (moment self.old)
-            (view self.old).history.revisions (Leaves self.old) (Leaves self.new) }
-        ensures goes { GoesOn self.old self.new };
+        ensures edited { Edited self.old self.new };
 
     fn region(&self, class: MemClass) -> Region
         ensures { result ≡ (view self.now).regions class };
@@ -245,6 +234,9 @@ pub trait Space: Kept {
 
     ghost goes_moment: { (a b : Self) → GoesOn a b → moment a ≤ moment b };
 
+    /// A read touches no file of a strict splitter's copy.
+    ghost alike_copy: { (a b : Self) → Self.Alike a b → copy_faults b ≡ copy_faults a };
+
     /// What a read leaves stands, rests and is steady as before.
     ghost alike_stands: { (a b : Self) → Self.Alike a b → Stands a → Stands b };
 
@@ -253,10 +245,49 @@ pub trait Space: Kept {
     ghost alike_steady: { IsTrue tells_stops → (a b : Self) → Self.Alike a b → Steady a → Steady b };
 
     /// The snapshots since a read began leave just the committed revisions; so, as a space is alike to itself, do
-    /// those of
-    /// a steady one.
+    /// those of a steady one.
     ghost alike_stops: { IsTrue tells_stops → (a b : Self) → Self.Alike a b → Steady a
         → LeavesSame (moment a) (view a).history.revisions (Leaves a) (Leaves b) };
+
+    /// What `prepare` leaves tells the same but for the ranges given, stands, rests and is steady as before. Its
+    /// counts and its moment are as before too, and its snapshots leave no other lists.
+    ghost readied_view: { (a b : Self) → Self.Readied a b
+        → view b ≡ record (view a) { prepared = (view b).prepared } };
+
+    ghost readied_stands: { (a b : Self) → Self.Readied a b → Stands a → Stands b };
+
+    ghost readied_counts: { (a b : Self) → Self.Readied a b → faults b ≡ faults a };
+
+    ghost readied_copy: { (a b : Self) → Self.Readied a b → copy_faults b ≡ copy_faults a };
+
+    ghost readied_rests: { (a b : Self) → Self.Readied a b → Rests a → Rests b };
+
+    ghost readied_moment: { (a b : Self) → Self.Readied a b → moment b ≡ moment a };
+
+    ghost readied_steady: { IsTrue tells_stops → (a b : Self) → Self.Readied a b → Steady a → Steady b };
+
+    ghost readied_past: { IsTrue tells_stops → (a b : Self) → Self.Readied a b → (m : ℕ) (list : List Stored)
+        → Leaves b m list → Leaves a m list };
+
+    /// A space is what no call left of it.
+    ghost readied_itself: { (a : Self) → Self.Readied a a };
+
+    /// What calls that write left has the same regions and goes on from before, and its snapshots leave just the
+    /// committed revisions. Such calls follow one another as long as the space stays steady.
+    ghost edited_readied: { (a b : Self) → Self.Readied a b → Self.Edited a b };
+
+    ghost edited_further: { (a b c : Self) → (IsTrue tells_stops → Steady a → Steady b) → Self.Edited a b
+        → Self.Edited b c → Self.Edited a c };
+
+    ghost edited_kind: { (a b : Self) → Self.Edited a b → SameKind (view a) (view b) };
+
+    ghost edited_goes: { (a b : Self) → Self.Edited a b → GoesOn a b };
+
+    ghost edited_stops: { IsTrue tells_stops → (a b : Self) → Self.Edited a b → Steady a
+        → LeavesSame (moment a) (view a).history.revisions (Leaves a) (Leaves b) };
+
+    /// What tells which revisions a stop leaves tells its bytes.
+    ghost tells_all: { IsTrue tells_stops → IsTrue tells };
 
     /// What it tells is sound as long as it stands.
     ghost sound: { (a : Self) → Stands a → IsSound tells (view a) };

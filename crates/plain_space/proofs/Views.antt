@@ -1,12 +1,15 @@
 -- What a space over a file tells after a write and with another length, and what its views tell of the file.
-use Rattle.std.proofs.Common.{ℕ, ◌≡◌, ◌<◌, ◌≤◌, ◌+◌, ◌-◌, ◌^◌, Bool, IsTrue, List, length, drop, replicate, refl, sym, ◌∙◌, ap, arith}
+use Rattle.std.proofs.Common.{ℕ, ◌≡◌, ◌≢◌, ◌<◌, ◌≤◌, ◌+◌, ◌-◌, ◌^◌, Bool, IsTrue, Option, Some, None, List, length, drop, replicate, refl, sym, ◌∙◌, ap, arith, inl, inr}
+use Rattle.std.proofs.lemmas.Bool.{cases_eq}
+use Rattle.std.proofs.lemmas.Option.{none-some, same_Some}
+use Rattle.outside.specs.Causes.{Counts}
 use Rattle.h5_base.specs.declared.extent.Extent.{Extent}
 use Rattle.h5_base.specs.declared.extent.MemClass.{MemClass}
 use Rattle.outside.specs.Array.{Array, array_of, over, SameOutside}
 use Rattle.outside.specs.Files.{written, resized}
 use Rattle.outside.specs.Space.{Wrote, new_bytes}
 use Rattle.outside.specs.Store.{View}
-use Rattle.plain_space.specs.File.{array_in, file_in, seen, view_of}
+use Rattle.plain_space.specs.File.{array_in, faults_of, file_in, seen, view_of}
 use Rattle.std.proofs.lemmas.List.{length-replicate}
 use Rattle.plain_space.proofs.Bytes.{over-unique}
 use Rattle.plain_space.proofs.Seen.{seen-written, seen-longer, same_bytes}
@@ -67,3 +70,14 @@ pub told_same : (tells : Bool) (v w : View) (i j : ℕ) → IsTrue tells → j �
 told_same tells v w i j told same array behind size = same_bytes (2 ^ 48) (file_in v i) (file_in w i)
     (sym (array_told tells (file_in w i) told) ∙ ap (λ (k : ℕ). array_in tells (file_in w k)) (sym same) ∙ array ∙ array_told tells (file_in v i) told)
     behind size
+
+-- all counts of a store are as they were, where those of the other files and that of the file are
+pub counts_same : (v w : View) (i j : ℕ) → j ≡ i → ((k : Option ℕ) → k ≢ Some i → w.counts k ≡ v.counts k)
+    → faults_of w j ≡ faults_of v i → (k : Option ℕ) → w.counts k ≡ v.counts k
+counts_same v w i j same others calm None = others None (none-some i)
+counts_same v w i j same others calm (Some k) = elim (cases_eq k i) [
+  | inl is ↦
+      ap (λ (n : ℕ). w.counts (Some n)) (is ∙ sym same) ∙ ap (λ (c : Counts). c k) calm
+      ∙ ap (λ (n : ℕ). v.counts (Some n)) (sym is)
+  | inr other ↦ others (Some k) (λ is. other (same_Some k i is))
+]

@@ -128,5 +128,6 @@ is_sound tells v id end prepared short = record {
     fits = λ c. omega arith;
     apart = λ c d. inl (refl, refl);
   };
+  revisions = λ c has. absurd (none-some c has);
   counted = λ told c has. absurd (none-some c has);
 }

@@ -5,10 +5,11 @@ use Rattle.std.proofs.Common.{refl, sym, ◌∙◌, inl, inr, ⊎_elim, ap, subs
 use Rattle.outside.specs.Causes.{NoneFell}
 use Rattle.outside.specs.Files.{Files, Snapshot, InFile, Follows}
 use Rattle.outside.specs.Store.{View, Calls, Goes, GoesOver, Passes}
+use Rattle.outside.specs.declared.store.FileId.{FileId}
 use Rattle.outside.proofs.Goes.{goes_on, goes_call, over_on, over_call, over_quiet}
-use Rattle.plain_space.specs.File.{file_in, faults_of, Looks, Touches}
-use Rattle.plain_space.specs.Plain.{id_of, end_of}
-use Rattle.plain_space.specs.Alike.{IsAlike, same_file}
+use Rattle.plain_space.specs.File.{file_in, faults_of, IsOpen, RestsIn, Looks, Touches}
+use Rattle.plain_space.specs.Plain.{store_of, id_of, end_of}
+use Rattle.plain_space.specs.Alike.{IsAlike, same_file, looks_nowhere}
 use Rattle.plain_space.specs.declared.space.PlainSpace.{PlainSpace}
 
 -- It has the same file, and nothing else of the store has changed. The end never falls, and where it stayed, so did the
@@ -139,3 +140,53 @@ pub came_counts : {S : Type 0} (tells tells_images : Bool) (v w : View) (lv lw :
 came_counts tells tells_images v w lv lw pv pw a b came k =
     subst (λ (i : ℕ). v.counts (Some a.id.n) ≤ w.counts (Some i)) (sym came.id)
     (came.store.goes.counts (Some (id_of a)))
+
+-- ---- what is prepared
+
+-- the same file of the same store, with the same end
+pub record IsReadied {S : Type 0} (a b : PlainSpace S) : Type 0 where
+  pub store : store_of b ≡ store_of a
+  pub id : b.id ≡ a.id
+  pub end : end_of b ≡ end_of a
+
+pub readied_itself : {S : Type 0} (a : PlainSpace S) → IsReadied a a
+readied_itself a = record { store = refl; id = refl; end = refl }
+
+-- a store, an id and an end
+record Parts (S : Type 0) : Type 0 where
+  pub store : S
+  pub id : ℕ
+  pub end : ℕ
+
+abbrev parts_of : {S : Type 0} → PlainSpace S → Parts S
+parts_of a = record { store = store_of a; id = id_of a; end = end_of a }
+
+parts_same : {S : Type 0} (a b : PlainSpace S) → IsReadied a b → parts_of a ≡ parts_of b
+parts_same a b h = sym (λ k. record { store = h.store k; id = (h.id k).n; end = h.end k })
+
+pub stands_readied : {S : Type 0} (tells : Bool) (view : S → View) (a b : PlainSpace S) → IsReadied a b
+    → IsOpen tells (view (store_of a)) (id_of a) (end_of a) → IsOpen tells (view (store_of b)) (id_of b) (end_of b)
+stands_readied tells view a b h stands =
+    subst (λ (p : Parts _). IsOpen tells (view p.store) p.id p.end) (parts_same a b h) stands
+
+pub rests_readied : {S : Type 0} (tells tells_images : Bool) (view : S → View) (leaves : S → Files → Type 0)
+    (a b : PlainSpace S) → IsReadied a b
+    → RestsIn tells tells_images (view (store_of a)) (leaves (store_of a)) (id_of a)
+    → RestsIn tells tells_images (view (store_of b)) (leaves (store_of b)) (id_of b)
+rests_readied tells tells_images view leaves a b h rests =
+    subst (λ (p : Parts _). RestsIn tells tells_images (view p.store) (leaves p.store) p.id) (parts_same a b h) rests
+
+pub came_readied : {S : Type 0} (tells tells_images : Bool) (view : S → View) (leaves : S → Files → Type 0) (past : S
+    → Snapshot → Type 0) (a b : PlainSpace S) → IsReadied a b
+    → CameFrom tells tells_images (view (store_of a)) (view (store_of b)) (leaves (store_of a)) (leaves (store_of b))
+    (past (store_of a)) (past (store_of b)) a b
+came_readied tells tells_images view leaves past a b h = record {
+  id = ap (λ (i : FileId). i.n) h.id;
+  up = omega (arith, h.end);
+  same_length = λ told same. ap (λ s. length (file_in (view s) (id_of a))) h.store;
+  store = subst (λ s. Touches tells tells_images (id_of a) (view (store_of a)) (view s) (leaves (store_of a)) (leaves s)
+      (past (store_of a)) (past s)) (sym h.store)
+      (touches_looks tells tells_images (id_of a) (view (store_of a)) (view (store_of a)) (leaves (store_of a))
+      (leaves (store_of a)) (past (store_of a)) (past (store_of a))
+      (looks_nowhere tells tells_images (id_of a) (view (store_of a)) (leaves (store_of a)) (past (store_of a))));
+}

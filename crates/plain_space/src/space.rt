@@ -22,7 +22,7 @@ pub struct PlainSpace<S> {
 }
 
 impl<S: Store> PlainSpace<S> {
-    ghost use Rattle.std.specs.Prelude.{◌<◌, [], length, Some, IsTrue, IfOk, OnErr};
+    ghost use Rattle.std.specs.Prelude.{◌<◌, ℕ, [], length, Option, Some, IsTrue, IfOk, OnErr};
     ghost use Rattle.outside.specs.Array.{array_of};
     ghost use Rattle.outside.specs.Causes.{Rose, OneRose};
     ghost use Rattle.outside.specs.Store.{SomeRose};
@@ -43,6 +43,8 @@ impl<S: Store> PlainSpace<S> {
             (S.view (store_of space)) (id_of space) (end_of space) []) }
         ensures failed { OnErr result (Rose ((S.view store).counts (Some id.n))
             ((S.view (store_left result)).counts (Some id.n))) }
+        ensures calm { IfOk result (λ space. (S.view (store_of space)).counts (Some id.n)
+            ≡ (S.view store).counts (Some id.n)) }
         ensures looks { Looks S.tells_files S.tells_images id.n (S.view store) (S.view (store_left result))
             (S.leaves store) (S.leaves (store_left result)) (S.past store) (S.past (store_left result)) }
     {
@@ -85,6 +87,10 @@ impl<S: Store> PlainSpace<S> {
         ensures rose { (a : PlainSpace S) → ⟦<PlainSpace<S> as Space>⟧.GoesOn a self
             → OneRose (⟦<PlainSpace<S> as Space>⟧.faults a) (⟦<PlainSpace<S> as Space>⟧.faults self)
             → SomeRose (S.view (store_of a)) (S.view result) }
+        // Where the counts of the space are as they were, so are all of the store's.
+        ensures calm { (a : PlainSpace S) → ⟦<PlainSpace<S> as Space>⟧.GoesOn a self
+            → ⟦<PlainSpace<S> as Space>⟧.faults self ≡ ⟦<PlainSpace<S> as Space>⟧.faults a → (k : Option ℕ)
+            → (S.view result).counts k ≡ (S.view (store_of a)).counts k }
     {
         let PlainSpace {
             store,
@@ -113,10 +119,11 @@ impl<S: Store> Kept for PlainSpace<S> {
 
 impl<S: Store> Space for PlainSpace<S> {
     ghost use Rattle.std.specs.Prelude.{Bool, false};
-    ghost use Rattle.std.proofs.Common.{arith};
+    ghost use Rattle.std.proofs.Common.{arith, refl};
     ghost use Rattle.plain_space.specs.File.{view_of, faults_of, IsOpen, RestsIn};
     ghost use Rattle.plain_space.specs.Alike.{view_alike, stands_alike, rests_alike, is_sound};
-    ghost use Rattle.plain_space.specs.CameFrom.{CameFrom, came_alike, came_on, came_counts};
+    ghost use Rattle.plain_space.specs.CameFrom.{CameFrom, IsReadied, readied_itself, stands_readied, rests_readied};
+    ghost use Rattle.plain_space.specs.CameFrom.{came_alike, came_on, came_counts, came_readied};
     ghost use Rattle.std.proofs.lemmas.Bool.{false≢true};
 
     ghost tells = { S.tells_files };
@@ -136,6 +143,12 @@ impl<S: Store> Space for PlainSpace<S> {
     ghost moment = { λ s. (S.view s.store).moment };
 
     ghost GoesOn = { λ a b. CameFrom S.tells_files S.tells_images (S.view a.store) (S.view b.store) (S.leaves a.store)
+        (S.leaves b.store) (S.past a.store) (S.past b.store) a b };
+
+    ghost Readied = { λ a b. IsReadied a b };
+
+    // Every call goes on in this way.
+    ghost Edited = { λ a b. CameFrom S.tells_files S.tells_images (S.view a.store) (S.view b.store) (S.leaves a.store)
         (S.leaves b.store) (S.past a.store) (S.past b.store) a b };
 
     ghost Steady = { λ _. ⊥ };
@@ -230,6 +243,8 @@ impl<S: Store> Space for PlainSpace<S> {
 
     ghost goes_moment = { λ a b h. h.store.goes.moment };
 
+    ghost alike_copy = { λ a b h. refl };
+
     ghost alike_stands = { λ a b h. stands_alike S.tells_files S.tells_images (S.view a.store) (S.view b.store)
         (S.leaves a.store) (S.leaves b.store) (S.past a.store) (S.past b.store) a b h };
 
@@ -239,6 +254,44 @@ impl<S: Store> Space for PlainSpace<S> {
     ghost alike_steady = { λ told. absurd (false≢true told) };
 
     ghost alike_stops = { λ told. absurd (false≢true told) };
+
+    ghost readied_view = { λ a b h k.
+        view_of S.tells_files (S.view (h.store k)) (h.id k).n (h.end k) b.prepared.items };
+
+    ghost readied_stands = { λ a b h stands. stands_readied S.tells_files S.view a b h stands };
+
+    ghost readied_counts = { λ a b h k. faults_of (S.view (h.store k)) (h.id k).n };
+
+    ghost readied_copy = { λ a b h. refl };
+
+    ghost readied_rests = { λ a b h rests. rests_readied S.tells_files S.tells_images S.view S.leaves a b h rests };
+
+    ghost readied_moment = { λ a b h k. (S.view (h.store k)).moment };
+
+    ghost readied_steady = { λ told. absurd (false≢true told) };
+
+    ghost readied_past = { λ told. absurd (false≢true told) };
+
+    ghost readied_itself = { λ a. readied_itself a };
+
+    ghost edited_readied = { λ a b h. came_readied S.tells_files S.tells_images S.view S.leaves S.past a b h };
+
+    ghost edited_further = { λ a b c steady first second. came_on S.tells_files S.tells_images (S.view a.store)
+        (S.view b.store) (S.view c.store)
+        (S.leaves a.store) (S.leaves b.store) (S.leaves c.store) (S.past a.store) (S.past b.store)
+        (S.past c.store) a b c first second };
+
+    ghost edited_kind = { λ a b h. record {
+      regions = refl;
+      writable = refl;
+      revisions = (λ none. none, λ none. none);
+    } };
+
+    ghost edited_goes = { λ a b h. h };
+
+    ghost edited_stops = { λ told. absurd (false≢true told) };
+
+    ghost tells_all = { λ told. absurd (false≢true told) };
 
     ghost sound = { λ a _. is_sound S.tells_files (S.view a.store) a.id.n a.end a.prepared.items a.short };
 }

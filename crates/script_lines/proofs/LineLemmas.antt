@@ -1,5 +1,5 @@
 -- A line that was begun, from piece to piece.
-use Rattle.std.proofs.Common.{◌≡◌, ◌≢◌, ℕ, suc, ◌+◌, ◌<◌, Bool, IsTrue, List, [], ◌∷◌, ◌++◌, length, take, refl, sym, ap, subst, ◌∙◌, arith, append_assoc, length-append, inl, inr, ◌⊎◌}
+use Rattle.std.proofs.Common.{◌≡◌, ◌≢◌, ℕ, suc, ◌+◌, ◌<◌, Bool, IsTrue, List, [], ◌∷◌, ◌++◌, length, take, Result, Ok, Err, refl, sym, ap, subst, ◌∙◌, arith, append_assoc, length-append, inl, inr, ◌⊎◌}
 use Rattle.std.proofs.lemmas.List.{append-nil}
 use Rattle.std.proofs.lemmas.List.Elements.{Contains-append_cases}
 use Rattle.script_lines.specs.Lines.{most_kept, HasNoLf, IsNext}
@@ -89,3 +89,7 @@ at_end tells line held left all line1 kept n b told none same is (inl (ends, emp
 at_end tells line held left all line1 kept n b told none same is (inr (lasts, some)) =
     subst (λ (m : NextLine). IsNext m line1 all (held ++ left)) (sym lasts)
     (subst (λ (l : List ℕ). IsNext Last l all (held ++ left)) (sym same) (last_next tells line held left all b told none (λ empty. let z : length kept ≡ 0 = ap length (is ∙ same ∙ empty) in absurd (omega arith))))
+
+-- what is done didn't stop
+pub no_stop : {T E : Type 0} (r : Result T E) (x : T) (e : E) → r ≡ Ok x → r ≡ Err e → ⊥
+no_stop r x e done stop = cc

@@ -1,5 +1,5 @@
 ghost use Rattle.std.specs.Prelude.{◌≡◌, ◌⊎◌, ◌↔◌, ◌+◌, ◌<◌, ◌≤◌, ◌++◌, ◌∷◌, [], List, ℕ, length, take};
-ghost use Rattle.std.specs.Prelude.{not, true, false, IsTrue, IfOk, OnErr, IsErrOf, Ok};
+ghost use Rattle.std.specs.Prelude.{not, true, false, IsTrue, IfOk, OnErr, IsErrOf, Ok, Err};
 ghost use Rattle.std.specs.List.{Contains};
 ghost use Rattle.outside.specs.Causes.{Rose};
 ghost use Rattle.script_lines.specs.Lines.{HasNoLf, HasReadAll, IsNext, most_kept, most_taken, spent};
@@ -137,6 +137,9 @@ impl LineReader {
         ensures limit { IsErrOf result ReadStop.Limit → self.new.taken ≡ most_taken }
         ensures failed { IsErrOf result ReadStop.Failed → Rose (I.faults source.old) (I.faults source.new) }
         ensures later { I.faults source.old ≤ I.faults source.new }
+        ensures calm { ¬ IsErrOf result ReadStop.Failed → I.faults source.new ≡ I.faults source.old }
+        // Once so many bytes were taken, the source isn't asked.
+        ensures unasked { self.old.taken ≡ most_taken → (result ≡ Err ReadStop.Limit) × (source.new ≡ source.old) }
     {
         let room = MOST_TAKEN - self.taken;
         if room == 0 {
@@ -165,8 +168,13 @@ impl LineReader {
         ensures stopped { IsTrue I.tells → OnErr result ((begun : List ℕ) × HasNoLf begun
             × (self.old.held ++ I.left source.old ≡ begun ++ I.left source.new)) }
         ensures lost { OnErr result (self.new.held ≡ []) }
+        // A fault is answered where the count of the source rose, and where none is answered it is as it was.
         ensures failed { IsErrOf result ReadStop.Failed → Rose (I.faults source.old) (I.faults source.new) }
         ensures later { I.faults source.old ≤ I.faults source.new }
+        ensures calm { ¬ IsErrOf result ReadStop.Failed → I.faults source.new ≡ I.faults source.old }
+        // Once 4,294,967,296 bytes were taken the source isn't asked, so that none of its faults is answered.
+        ensures unasked { self.old.taken ≡ most_taken → source.new ≡ source.old }
+        ensures asked_below { IsErrOf result ReadStop.Failed → self.new.taken < most_taken }
 
         // 4,294,967,296 bytes were taken before a read answered the end; with an end fewer were.
         ensures limit { IsErrOf result ReadStop.Limit → self.new.taken ≡ most_taken }

@@ -131,6 +131,7 @@ pub fn lookup<V: Space>(alloc: Global, space: V, path: &[LinkName]) -> Looked<V>
         → IfErr result.answer (λ stop. refusal_of stop ≡ None) }
     ensures alike { V.Alike space result.space }
     ensures failed { IsErrOf result.answer Stop.Failed → OneRose (V.faults space) (V.faults result.space) }
+    ensures calm { ¬ IsErrOf result.answer Stop.Failed → V.faults result.space ≡ V.faults space }
 {
     let mut blocks = Blocks::new(alloc, space);
     match open_tree(alloc, &mut blocks) {

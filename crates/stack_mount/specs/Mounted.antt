@@ -1,7 +1,8 @@
 -- When a file is mounted, and why not, by its bytes and where they end; and what judging it leaves of its store.
 -- Cited by `mount`, and by its callers.
-use Rattle.std.specs.Prelude.{◌≡◌, ◌≢◌, ℕ, ◌<◌, ◌≤◌, Bool, IsTrue, Result, Ok, Err}
+use Rattle.std.specs.Prelude.{◌≡◌, ◌≢◌, ℕ, ◌<◌, ◌≤◌, Bool, IsTrue, List, Option, Some, None, Result, Ok, Err}
 use Rattle.outside.specs.Array.{Array}
+use Rattle.outside.specs.Causes.{Rose}
 use Rattle.outside.specs.Files.{Files, Snapshot}
 use Rattle.outside.specs.Store.{View, Goes, GoesOver}
 use Rattle.super_codec.specs.Super.{Spells, stop_of}
@@ -48,10 +49,20 @@ abbrev pub store_left : {S : Type 0} → Result (PlainSpace S) (MountRefused S) 
 store_left (Ok space) = store_of space
 store_left (Err refused) = refused.store
 
--- What calls that change no file leave of a store: each image and each snapshot since is one that a stop could leave
--- before.
-pub record IsOnlySeen (tells tells_images : Bool) (v w : View) (leaves new_leaves : Files
+-- one of the counts that calls for this file alone may raise: that of `file`, or that of the file's id
+abbrev pub IsCountOf : List ℕ → View → Option ℕ → Type 0
+IsCountOf file v None = Unit {0}
+IsCountOf file v (Some id) = v.names id ≡ file
+
+-- one of these counts rose
+abbrev pub FileRose : List ℕ → View → View → Type 0
+FileRose file v w = (k : Option ℕ) × IsCountOf file w k × Rose (v.counts k) (w.counts k)
+
+-- What calls for one file that change none leave of a store: the counts of the other files stay, and each image and
+-- each snapshot since is one that a stop could leave before.
+pub record IsOnlySeen (tells tells_images : Bool) (file : List ℕ) (v w : View) (leaves new_leaves : Files
     → Type 0) (past new_past : Snapshot → Type 0) : Type 0 where
   pub goes : Goes tells (λ _. ⊥) v w
+  pub others : (k : Option ℕ) → ¬ IsCountOf file w k → w.counts k ≡ v.counts k
   pub fewer : IsTrue tells_images → (c : Files) → new_leaves c → leaves c
   pub since : IsTrue tells_images → GoesOver (λ _. ⊥) leaves new_leaves past new_past

@@ -33,6 +33,7 @@ fn read_front<V: Space>(space: &mut V, end: u64) -> Result<Superblock, Stop>
     ensures lacks { IsTrue V.tells → IfErr result (λ stop. (why : Refusal) → stop ≡ Stop.Refused why
         → LacksSuper (V.view space.old).array end why) }
     ensures failed { IsErrOf result Stop.Failed → OneRose (V.faults space.old) (V.faults space.new) }
+    ensures calm { ¬ IsErrOf result Stop.Failed → V.faults space.new ≡ V.faults space.old }
     ensures memory { IsErrOf result Stop.NoMemory → ⊥ }
     ensures alike { V.Alike space.old space.new }
 {
@@ -59,6 +60,7 @@ pub(crate) fn judge<V: Space>(space: &mut V) -> Result<(), Stop>
     ensures refused { IsTrue V.tells → IfErr result (λ stop. (why : Refusal) → stop ≡ Stop.Refused why
         → IsRefused (V.view space.old).array ((V.view space.old).ends class.Super) why) }
     ensures failed { IsErrOf result Stop.Failed → OneRose (V.faults space.old) (V.faults space.new) }
+    ensures calm { ¬ IsErrOf result Stop.Failed → V.faults space.new ≡ V.faults space.old }
     ensures memory { IsErrOf result Stop.NoMemory → ⊥ }
     ensures alike { V.Alike space.old space.new }
 {

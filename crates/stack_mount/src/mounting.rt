@@ -1,12 +1,13 @@
-ghost use Rattle.std.specs.Prelude.{◌≡◌, ◌≤◌, ℕ, [], length, IsTrue, IfOk, IfErr, OnOk};
+ghost use Rattle.std.specs.Prelude.{◌≡◌, ◌≢◌, ◌≤◌, ℕ, [], length, Option, IsTrue, IfOk, IfErr, OnOk};
 ghost use Rattle.h5_base.specs.Names.{IsName};
 ghost use Rattle.h5_base.specs.declared.refusal.Refusal.{Refusal};
 ghost use Rattle.outside.specs.Array.{array_of};
 ghost use Rattle.outside.specs.Files.{Files};
-ghost use Rattle.outside.specs.Store.{Goes, GoesOver, SomeRose};
+ghost use Rattle.outside.specs.Store.{NoneRose, Goes, GoesOver};
 ghost use Rattle.plain_space.specs.File.{seen, view_of};
 ghost use Rattle.plain_space.specs.Plain.{store_of, id_of, end_of};
-ghost use Rattle.stack_mount.specs.Mounted.{IsRefused, IsAdmitted, IsOnlySeen, store_left};
+ghost use Rattle.stack_mount.specs.Mounted.{IsRefused, IsAdmitted, IsOnlySeen, IsCountOf, FileRose};
+ghost use Rattle.stack_mount.specs.Mounted.{store_left};
 
 use crate::faults::MountRefused;
 use crate::judging::judge;
@@ -31,9 +32,12 @@ fn open_file<S: Store>(
         (λ space. (⟦<PlainSpace<S> as Space>⟧.view space).array ≡ array_of (seen ((S.view store).files file.now))) }
     ensures no_line { IfErr result (λ refused. (why : Refusal) → refused.fault ≡ Stop.Refused why → ⊥) }
     ensures failed { IfErr result (λ refused. refused.fault ≡ Stop.Failed
-        → SomeRose (S.view store) (S.view refused.store)) }
-    ensures left { IsOnlySeen S.tells_files S.tells_images (S.view store) (S.view (store_left result)) (S.leaves store)
-        (S.leaves (store_left result)) (S.past store) (S.past (store_left result)) }
+        → FileRose file.now (S.view store) (S.view refused.store)) }
+    ensures calm { IfOk result (λ space. NoneRose (S.view store) (S.view (store_of space))) }
+    ensures calm_refused { IfErr result (λ refused. refused.fault ≢ Stop.Failed
+        → NoneRose (S.view store) (S.view refused.store)) }
+    ensures left { IsOnlySeen S.tells_files S.tells_images file.now (S.view store) (S.view (store_left result))
+        (S.leaves store) (S.leaves (store_left result)) (S.past store) (S.past (store_left result)) }
 {
     let _text = file.as_slice();
     let id = match store.file(file) {
@@ -62,8 +66,8 @@ fn open_file<S: Store>(
 
 /// Mounts a plain file, which is judged by its superblock and its end: the space of its first 2^48 bytes, or the store
 /// again with the first reason why it isn't mounted. The store is asked for the file's id, its length and at most 100
-/// bytes. No file is made or changed. `Failed` comes only where a count of the store rose, `NoMemory` where no memory
-/// is left.
+/// bytes. No file is made or changed. `Failed` comes only where the store's count of `file` or that of the file's id
+/// rose, and where it isn't answered no count did; `NoMemory` comes where no memory is left.
 pub fn mount<S: Store>(
     alloc: Global,
     file: &Name,
@@ -85,9 +89,14 @@ pub fn mount<S: Store>(
         → IsRefused (array_of (seen ((S.view store).files file.now)))
         (length (seen ((S.view store).files file.now))) why) }
     ensures failed { IfErr result (λ refused. refused.fault ≡ Stop.Failed
-        → SomeRose (S.view store) (S.view refused.store)) }
+        → FileRose file.now (S.view store) (S.view refused.store)) }
+    ensures calm { IfOk result (λ space. NoneRose (S.view store) (S.view (store_of space))) }
+    ensures calm_refused { IfErr result (λ refused. refused.fault ≢ Stop.Failed
+        → NoneRose (S.view store) (S.view refused.store)) }
     // The store that is left, in the space or in the refusal.
     ensures goes { Goes S.tells_files (λ _. ⊥) (S.view store) (S.view (store_left result)) }
+    ensures others { (k : Option ℕ) → ¬ IsCountOf file.now (S.view (store_left result)) k
+        → (S.view (store_left result)).counts k ≡ (S.view store).counts k }
     ensures fewer { IsTrue S.tells_images → (c : Files) → S.leaves (store_left result) c → S.leaves store c }
     ensures since { IsTrue S.tells_images → GoesOver (λ _. ⊥) (S.leaves store) (S.leaves (store_left result))
         (S.past store) (S.past (store_left result)) }

@@ -5,7 +5,7 @@ abbrev pub invariant-loop-done : goal.invariant-loop-done
 invariant-loop-done g l = record {
   within : l.done ≤ length l.text;
   so_far : IsTrue g.O.Sink.tells → g.O.Sink.written l.out ≡ g.O.Sink.written l.initial.out ++ take l.done l.text;
-  counts : g.O.Sink.faults l.initial.out ≤ g.O.Sink.faults l.out;
+  counts : g.O.Sink.faults l.out ≡ g.O.Sink.faults l.initial.out;
 }
 
 abbrev pub decreases-loop-done : goal.decreases-loop-done

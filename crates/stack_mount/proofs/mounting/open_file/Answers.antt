@@ -28,20 +28,20 @@ pub returns-in-Ok-open-clause-left : goal.returns-in-Ok-open-clause-left
 returns-in-Ok-open-clause-left g c =
     let call = c.file.ensures in
     let names = names_given c.args.file.now c.in-Ok.id.n (g.S.Store.view c.args.store) (g.S.Store.view c.file.new.self) c.in-Ok.ensures.given in
-    seen_on _ _ _ _ _ _ _ _ _ _ _ _ (seen_call g.S.Store.tells_files g.S.Store.tells_images _ _ _ _ _ _ _ _ _ call.call names call.images call.time) c.in-Ok-open.ensures.looks
+    seen_on _ _ c.args.file.now c.in-Ok.id.n _ _ _ _ _ _ _ _ _ c.in-Ok.ensures.given.named (seen_call g.S.Store.tells_files g.S.Store.tells_images c.args.file.now _ _ _ _ _ _ _ _ call.call names call.images call.time) c.in-Ok-open.ensures.looks
 
 pub returns-in-Err-NoMemory-clause-left : goal.returns-in-Err-NoMemory-clause-left
 returns-in-Err-NoMemory-clause-left g c =
     let call = c.file.ensures in
-    seen_call g.S.Store.tells_files g.S.Store.tells_images _ _ _ _ _ _ _ _ _ call.call (λ i some. ap (λ (f : ℕ → List ℕ). f i) c.in-Err-NoMemory.ensures.same.names) call.images call.time
+    seen_call g.S.Store.tells_files g.S.Store.tells_images c.args.file.now _ _ _ _ _ _ _ _ call.call (λ i some. ap (λ (f : ℕ → List ℕ). f i) c.in-Err-NoMemory.ensures.same.names) call.images call.time
 
 pub returns-in-Err-Failed-clause-left : goal.returns-in-Err-Failed-clause-left
 returns-in-Err-Failed-clause-left g c =
     let call = c.file.ensures in
-    seen_call g.S.Store.tells_files g.S.Store.tells_images _ _ _ _ _ _ _ _ _ call.call (λ i some. ap (λ (f : ℕ → List ℕ). f i) c.in-Err-Failed.ensures.same.names) call.images call.time
+    seen_call g.S.Store.tells_files g.S.Store.tells_images c.args.file.now _ _ _ _ _ _ _ _ call.call (λ i some. ap (λ (f : ℕ → List ℕ). f i) c.in-Err-Failed.ensures.same.names) call.images call.time
 
 pub returns-in-Err-clause-left : goal.returns-in-Err-clause-left
 returns-in-Err-clause-left g c =
     let call = c.file.ensures in
     let names = names_given c.args.file.now c.in-Ok.id.n (g.S.Store.view c.args.store) (g.S.Store.view c.file.new.self) c.in-Ok.ensures.given in
-    seen_on _ _ _ _ _ _ _ _ _ _ _ _ (seen_call g.S.Store.tells_files g.S.Store.tells_images _ _ _ _ _ _ _ _ _ call.call names call.images call.time) c.in-Err.ensures.looks
+    seen_on _ _ c.args.file.now c.in-Ok.id.n _ _ _ _ _ _ _ _ _ c.in-Ok.ensures.given.named (seen_call g.S.Store.tells_files g.S.Store.tells_images c.args.file.now _ _ _ _ _ _ _ _ call.call names call.images call.time) c.in-Err.ensures.looks

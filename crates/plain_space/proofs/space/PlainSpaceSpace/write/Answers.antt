@@ -4,11 +4,17 @@ use Rattle.plain_space.proofs.Steps.{done_in_part, open_still, came_written}
 use Rattle.plain_space.proofs.Views.{wrote, told_outside}
 use Rattle.plain_space.proofs.space.PlainSpaceSpace.write.Goals as goal
 
-pub returns-in-Ok-clause-wrote : goal.returns-in-Ok-clause-wrote
-returns-in-Ok-clause-wrote g c = λ told.
+pub returns-in-Ok-clause-done : goal.returns-in-Ok-clause-done
+returns-in-Ok-clause-done g c =
     let s = c.args.self.now in
-    wrote g.S.Store.tells_files (g.S.Store.view s.store) (g.S.Store.view c.write.new.self) s.id.n s.end c.args.at s.prepared.items c.args.bytes.now told c.in-Ok.ensures.names (c.in-Ok.ensures.written told)
-    (omega (arith, c.requires.inside.1.high, s.short))
+    record {
+      wrote = λ told.
+          wrote g.S.Store.tells_files (g.S.Store.view s.store) (g.S.Store.view c.write.new.self) s.id.n s.end c.args.at s.prepared.items c.args.bytes.now told c.in-Ok.ensures.names (c.in-Ok.ensures.written told)
+          (omega (arith, c.requires.inside.1.high, s.short));
+      pages = refl;
+      ends = refl;
+      prepared = refl;
+    }
 
 pub returns-in-Ok-clause-stands : goal.returns-in-Ok-clause-stands
 returns-in-Ok-clause-stands g c =
@@ -18,8 +24,8 @@ returns-in-Ok-clause-stands g c =
     open_still g.S.Store.tells_files v w s.id.n s.end c.args.at (length c.args.bytes.now) c.requires.stands c.requires.inside.1.high c.in-Ok.ensures.names
     (λ told. done_in_part g.S.Store.tells_files v w s.id.n s.end c.args.at c.args.bytes.now c.requires.stands c.requires.inside.1.high told (c.in-Ok.ensures.written told))
 
-pub returns-in-Ok-clause-goes : goal.returns-in-Ok-clause-goes
-returns-in-Ok-clause-goes g c =
+pub returns-in-Ok-clause-edited : goal.returns-in-Ok-clause-edited
+returns-in-Ok-clause-edited g c =
     let s = c.args.self.now in
     let v = g.S.Store.view s.store in
     let w = g.S.Store.view c.write.new.self in
@@ -36,8 +42,8 @@ returns-in-Err-clause-in_part g c = λ told failed.
     told_outside g.S.Store.tells_files v w s.id.n c.args.at (length c.args.bytes.now) told c.in-Err.ensures.names
     (part_outside (2 ^ 48) c.args.at (length c.args.bytes.now) (v.files (v.names s.id.n)) (w.files (v.names s.id.n)) (c.in-Err.ensures.in_part told))
 
-pub returns-in-Err-clause-goes : goal.returns-in-Err-clause-goes
-returns-in-Err-clause-goes g c =
+pub returns-in-Err-clause-edited : goal.returns-in-Err-clause-edited
+returns-in-Err-clause-edited g c =
     let s = c.args.self.now in
     came_written g.S.Store.tells_files g.S.Store.tells_images _ _ c.args.at (length c.args.bytes.now) (g.S.Store.view s.store) (g.S.Store.view c.write.new.self)
     (g.S.Store.leaves s.store) (g.S.Store.leaves c.write.new.self) (g.S.Store.past s.store) (g.S.Store.past c.write.new.self)

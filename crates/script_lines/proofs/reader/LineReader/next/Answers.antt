@@ -2,7 +2,8 @@ use Rattle.std.proofs.Common.{◌++◌, ℕ, List, Result, Ok, Err, OnErr, sym, 
 use Rattle.std.proofs.lemmas.Bool.Decides.{nat_tests}
 use Rattle.std.specs.List.{Contains}
 use Rattle.script_lines.specs.Lines.{Reading}
-use Rattle.script_lines.proofs.LineLemmas.{Begun, more, filled, line_next, stopped, at_end, length-parts}
+use Rattle.script_lines.specs.declared.reader.ReadStop.TheVariants.{Failed, Limit}
+use Rattle.script_lines.proofs.LineLemmas.{Begun, more, filled, line_next, stopped, at_end, length-parts, no_stop}
 use Rattle.script_lines.proofs.reader.LineReader.next.Goals as goal
 use Rattle.script_lines.proofs.reader.LineReader.next.Goals.{then-is_empty, else-is_empty}
 
@@ -50,5 +51,8 @@ loop-self-preserved g c =
       spent = omega (arith, i.spent, c.fill.ensures.taken, c.take_line.ensures.taken);
       held = λ has. absurd (none has);
       asked = λ has. absurd (none has);
-      later = omega (arith, i.later, c.fill.ensures.later);
+      calm = c.fill.ensures.calm (no_stop c.fill.result c.in_ok-fill.field-0 Failed c.in_ok-fill.was) ∙ i.calm;
+      full = λ was.
+          let limit = c.fill.ensures.unasked (c.take_line.ensures.taken ∙ (i.full was).0) in
+          absurd (no_stop c.fill.result c.in_ok-fill.field-0 Limit c.in_ok-fill.was limit.0);
     }

@@ -12,7 +12,8 @@ invariant-loop-self g l = record {
   spent : spent l.fn.self ≤ spent l.self;
   held : Contains l.fn.self.held 10 → l.self.held ≡ l.fn.self.held;
   asked : Contains l.fn.self.held 10 → l.source ≡ l.fn.source;
-  later : g.I.Source.faults l.fn.source ≤ g.I.Source.faults l.source;
+  calm : g.I.Source.faults l.source ≡ g.I.Source.faults l.fn.source;
+  full : l.fn.self.taken ≡ most_taken → (l.self.taken ≡ most_taken) × (l.source ≡ l.fn.source);
 }
 
 abbrev pub decreases-loop-self : goal.decreases-loop-self
