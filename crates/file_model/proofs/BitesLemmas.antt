@@ -1,40 +1,45 @@
 -- What no bytes hold.
-use Rattle.std.proofs.Common.{◌≡◌, ℕ, ◌+◌, ◌<◌, ◌≤◌, true, false, ◌==◌, List, [], ◌∷◌, ◌++◌, refl, sym, ◌∙◌, ap, subst, arith, inl, inr}
+use Rattle.std.proofs.Common.{◌≡◌, ℕ, ◌+◌, ◌<◌, ◌≤◌, true, false, ◌==◌, List, [], ◌∷◌, ◌++◌, map, refl, sym, ◌∙◌, ap}
+use Rattle.std.proofs.Common.{subst, arith, inl, inr}
 use Rattle.std.specs.List.{flat_map}
 use Rattle.std.proofs.lemmas.Bool.Decides.{nat_tests}
 use Rattle.h5_base.specs.Fields.{u64_at}
-use Rattle.object_model.specs.Tree.{name_lt}
+use Rattle.object_model.specs.Tree.{name_lt, AreOrdered}
 use Rattle.outside.specs.Blocks.{Block, AreApart, AreKept}
 use Rattle.file_model.specs.Headers.{Met, continued, messages_of}
 use Rattle.file_model.specs.Groups.{Found, AreBetween}
 use Rattle.file_model.specs.Chunks.{AreMultiples}
-use Rattle.file_model.specs.Bites.{DisorderInNode, DisorderInGroup, NameBelowKey, NameAboveKey, KeyOutside, SharedByte, PastEnd, OwnContinuation, LooseChunk, HugeSpace, PlaceInChunk}
+use Rattle.file_model.specs.Bites.{DisorderInNode, DisorderInGroup, NameBelowKey, NameAboveKey, KeyOutside, SharedByte}
+use Rattle.file_model.specs.Bites.{PastEnd, OwnContinuation, LooseChunk, HugeSpace, PlaceInChunk}
 use Rattle.file_model.proofs.UniqueGroups.{text_same}
 
 pub disorder_in_node : DisorderInNode
-disorder_in_node b ks segment at f g fs bs wrong h = let right = h.ordered.0 in cc
+disorder_in_node b ks segment s f g fs wrong are h =
+    let right = (subst (λ (l : List Found). AreOrdered (map (λ f. f.name) l)) are h.ordered).0 in cc
 
 pub disorder_in_group : DisorderInGroup
 disorder_in_group b ks tree heap f g fs bs wrong h = let right = h.ordered.0 in cc
 
 pub name_below_key : NameBelowKey
-name_below_key segment low k l c f here own bs text wrong x =
-    let same : x.0 ≡ low = text_same segment k x.0 low x.6 text in
-    let between = subst (λ (fs : List Found). AreBetween x.0 x.1 fs) x.8.1 x.9 in
+name_below_key segment [] low k f here x xs text wrong are h = h
+name_below_key segment (l ∷ keys) low k f here x xs text wrong are h =
+    let same : h.0 ≡ low = text_same segment k h.0 low h.2 text in
+    let between = subst (λ (fs : List Found). AreBetween h.0 h.1 fs) are h.4 in
     let right : name_lt low f.name ≡ true = ap (λ (n : List ℕ). name_lt n f.name) (sym same) ∙ between.0.0 in
     cc
 
 pub name_above_key : NameAboveKey
-name_above_key segment high k l c f here own bs text wrong x =
-    let same : x.1 ≡ high = text_same segment l x.1 high x.7 text in
-    let between = subst (λ (fs : List Found). AreBetween x.0 x.1 fs) x.8.1 x.9 in
+name_above_key segment keys high k l f here x xs text wrong are h =
+    let same : h.1 ≡ high = text_same segment l h.1 high h.3 text in
+    let between = subst (λ (fs : List Found). AreBetween h.0 h.1 fs) are h.4 in
     wrong (ap (λ (n : List ℕ). name_lt n f.name) (sym same) ∙ between.0.1)
 
 pub key_outside : KeyOutside
-key_outside b ks segment keys children k l c fs bs (inl past) x = let inside = x.6.inside in omega arith
-key_outside b ks segment keys children k l c fs bs (inr past) x = let inside = x.7.inside in omega arith
+key_outside segment keys k l x xs (inl past) h = let inside = h.2.inside in omega arith
+key_outside segment keys k l x xs (inr past) h = let inside = h.3.inside in omega arith
 
-shared : (x y : Block) (address : ℕ) → x.start ≤ address → address < x.start + x.len → y.start ≤ address → address < y.start + y.len → AreApart x y → ⊥
+shared : (x y : Block) (address : ℕ) → x.start ≤ address → address < x.start + x.len → y.start ≤ address
+    → address < y.start + y.len → AreApart x y → ⊥
 shared x y address a b c d (inl before) = omega arith
 shared x y address a b c d (inr behind) = omega arith
 
@@ -56,7 +61,7 @@ own_continuation e at prefix p parts m ms blocks first kind low some high kept =
     shared head (record { start = u64_at m.body 0; len = u64_at m.body 8 }) (u64_at m.body 0) low (omega arith) (omega arith) (omega arith) both.apart.0.0
 
 pub loose_chunk : LooseChunk
-loose_chunk size element key n at cs bs offset loose h = loose (subst (AreMultiples (size ∷ [])) offset h.multiples).0
+loose_chunk size element n c offset loose h = loose (subst (AreMultiples (size ∷ [])) offset h.multiples).0
 
 pub huge_space : HugeSpace
 huge_space ms i huge h = let fits = h.fits in omega arith

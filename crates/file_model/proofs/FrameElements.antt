@@ -13,11 +13,12 @@ use Rattle.dtype.specs.Types.{size_of}
 use Rattle.header_codec.specs.Layouts.{IsOfShape, SpellsLayout}
 use Rattle.header_codec.specs.declared.types.Layout.{Layout}
 use Rattle.header_codec.specs.declared.types.Layout.TheVariants as layout
-use Rattle.node_codec.specs.declared.chunk_node.ChunkKey.{ChunkKey}
 use Rattle.object_model.specs.Boxes.{indices, place, minus, floor_to, all_lt}
 use Rattle.object_model.proofs.BoxLemmas.{and_both, and_true, place-lt, indices-below, map-each}
 use Rattle.outside.specs.Blocks.{Block, placed, Agree}
-use Rattle.file_model.specs.Chunks.{Chunk, Under, AreChildren, IsNode, IsStored, IsIndex, IsStoredBy, IsIndexed, is_read, chunk_at, chunk_sizes, beyond, bytes_or, stored_at, elements_of}
+use Rattle.file_model.specs.Index.{Bottom, Node, NoMore, Next}
+use Rattle.file_model.specs.Chunks.{Chunk, ChunkIndex, ChunkIndexes, chunks_under, chunks_within, index_blocks, blocks_within}
+use Rattle.file_model.specs.Chunks.{IsStoredBy, IsIndexed, is_read, chunk_at, chunk_sizes, beyond, bytes_or, stored_at, elements_of}
 use Rattle.file_model.specs.Objects.{DataInfo, IsDataHeader}
 use Rattle.file_model.specs.Headers.{Met}
 use Rattle.file_model.proofs.FrameBytes.{Same, bytes_same, within_same, agree_left, agree_right, placed_same}
@@ -82,32 +83,22 @@ chunks_both : (b c : Array) (n : ℕ) (xs ys : List Chunk) → ChunksSame b c n 
 chunks_both b c n [] ys h k = k
 chunks_both b c n (x ∷ xs) ys h k = (h.0, chunks_both b c n xs ys h.1 k)
 
--- what stands under a child has the same bytes in each chunk
-abbrev ChildSame : Array → Array → ℕ → Under → Type 0
-ChildSame b c n Child = (key : ChunkKey) (at : ℕ) (cs : List Chunk) (bs : List Block) → Child key at cs bs → Agree b c bs → ChunksSame b c n cs
+-- what the blocks of an index cover has the same bytes in each chunk
+mutual
+  under_same : (b c : Array) (k rank : ℕ) (sizes : List ℕ) (x : ChunkIndex) → Agree b c (index_blocks k rank sizes x)
+      → ChunksSame b c (product sizes) (chunks_under x)
+  under_same b c k rank sizes (Bottom d) agree = (agree.0, tt)
+  under_same b c k rank sizes (Node n xs) agree = all_same b c k rank sizes xs agree.1
 
-children_same : (b c : Array) (n : ℕ) (Child : Under) → ChildSame b c n Child → (first : Bool) (keys : List ChunkKey) (children : List ℕ) (cs : List Chunk) (bs : List Block)
-    → AreChildren Child first keys children cs bs → Agree b c bs → ChunksSame b c n cs
-children_same b c n Child same first keys [] cs bs h agree = subst (ChunksSame b c n) (sym h.0) tt
-children_same b c n Child same first [] (a ∷ rest) cs bs h agree = absurd h
-children_same b c n Child same first (k ∷ []) (a ∷ rest) cs bs h agree = absurd h
-children_same b c n Child same first (k ∷ l ∷ ks) (a ∷ rest) cs bs (here, later, own, more, child, others, above, most, cs_is, bs_is) agree =
-    let both : Agree b c (own ++ more) = subst (Agree b c) bs_is agree in
-    subst (ChunksSame b c n) (sym cs_is)
-    (chunks_both b c n here later (same k a here own child (agree_left b c own more both))
-    (children_same b c n Child same false (l ∷ ks) rest later more others (agree_right b c own more both)))
-
-stored_same : (b c : Array) (rank : ℕ) (sizes : List ℕ) → ChildSame b c (product sizes) (IsStored rank sizes)
-stored_same b c rank sizes key at cs bs h agree = subst (ChunksSame b c (product sizes)) (sym h.chunk) ((subst (Agree b c) h.block agree).0, tt)
-
-node_same : (b c : Array) (k rank n level : ℕ) (Child : Under) → ChildSame b c n Child → (at : ℕ) (cs : List Chunk) (bs : List Block) → IsNode b k rank level Child at cs bs → Agree b c bs → ChunksSame b c n cs
-node_same b c k rank n level Child same at cs bs h agree =
-    children_same b c n Child same true h.node.keys h.node.children cs h.below h.children (subst (Agree b c) h.blocks agree).1
-
-pub chunks_same : (b c : Array) (k rank : ℕ) (sizes : List ℕ) (level tree : ℕ) (cs : List Chunk) (bs : List Block) → IsIndex b k rank sizes level tree cs bs → Agree b c bs → ChunksSame b c (product sizes) cs
-chunks_same b c k rank sizes zero = node_same b c k rank (product sizes) 0 (IsStored rank sizes) (stored_same b c rank sizes)
-chunks_same b c k rank sizes (suc level) =
-    node_same b c k rank (product sizes) (suc level) (λ key. IsIndex b k rank sizes level) (λ key. chunks_same b c k rank sizes level)
+  all_same : (b c : Array) (k rank : ℕ) (sizes : List ℕ) (xs : ChunkIndexes)
+      → Agree b c (blocks_within k rank sizes xs) → ChunksSame b c (product sizes) (chunks_within xs)
+  all_same b c k rank sizes NoMore agree = tt
+  all_same b c k rank sizes (Next x xs) agree =
+      let own = index_blocks k rank sizes x in
+      let later = blocks_within k rank sizes xs in
+      chunks_both b c (product sizes) (chunks_under x) (chunks_within xs)
+      (under_same b c k rank sizes x (agree_left b c own later agree))
+      (all_same b c k rank sizes xs (agree_right b c own later agree))
 
 -- ---- elements
 
@@ -143,7 +134,9 @@ chunked_same b c size rank sizes index fill cs same some one last chunks =
 
 indexed_same : (b c : Array) (read : Bool) (k rank : ℕ) (sizes : List ℕ) (tree : ℕ) (cs : List Chunk) (bs : List Block) → IsIndexed read b k rank sizes tree cs bs → Agree b c bs → ChunksSame b c (product sizes) cs
 indexed_same b c false k rank sizes tree cs bs h agree = subst (ChunksSame b c (product sizes)) (sym h.0) tt
-indexed_same b c true k rank sizes tree cs bs (level, index, ascending) agree = chunks_same b c k rank sizes level tree cs bs index agree
+indexed_same b c true k rank sizes tree cs bs h agree =
+    subst (ChunksSame b c (product sizes)) (sym h.chunks)
+    (under_same b c k rank sizes h.index (subst (Agree b c) h.blocks agree))
 
 element_same : (b c : Array) (k : ℕ) (i : DataInfo) (l : Layout) (cs : List Chunk) (bs : List Block) → HasSizes l → IsOfShape (length i.shape.dims) (size_of i.elem) l → IsStoredBy b k i l cs bs → Agree b c bs
     → (index : List ℕ) → all_lt index i.shape.dims ≡ true → bytes_or b (stored_at i l cs index) (size_of i.elem) i.fill ≡ bytes_or c (stored_at i l cs index) (size_of i.elem) i.fill

@@ -16,7 +16,8 @@ use Rattle.file_model.specs.Holds.{GroupAt, DataAt, OtherAt, LeafAt, DataLeaf, S
 use Rattle.file_model.specs.Laws.{FrameLaw, Rises, all_blocks}
 use Rattle.file_model.proofs.FrameBytes.{Same, bytes_same, within_same, agree_left, agree_right, agree_itself}
 use Rattle.file_model.proofs.FrameHeaders.{header_stays}
-use Rattle.file_model.proofs.FrameGroups.{links_stay, stored_stays}
+use Rattle.file_model.proofs.FrameGroups.{links_stay}
+use Rattle.file_model.proofs.FrameChunks.{stored_stays}
 use Rattle.file_model.proofs.FrameElements.{elements_same}
 use Rattle.file_model.proofs.FrameSuper.{spells_same}
 

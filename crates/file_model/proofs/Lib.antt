@@ -1,7 +1,9 @@
 pub mod FrameBytes
+pub mod MetLaws
 pub mod FrameElements
 pub mod FrameHeaders
 pub mod FrameGroups
+pub mod FrameChunks
 pub mod FrameSuper
 pub mod FrameLemmas
 pub mod UniqueHeaders
@@ -11,9 +13,12 @@ pub mod UniqueTree
 pub mod EmptyFile
 pub mod EditLemmas
 pub mod NoFault
+pub mod OneBlock
 pub mod NoHeader
 pub mod NoGroups
 pub mod NoChunks
+pub mod OneGroup
+pub mod OneChunk
 pub mod NoRefusal
 pub mod BitesLemmas
 pub mod HeldOrder
@@ -26,3 +31,6 @@ pub mod PartBytes
 pub mod NewHeaders
 pub mod OtherBody
 pub mod OtherObject
+pub mod OtherSegment
+pub mod OneHeader
+pub mod OneRefusal

@@ -1,5 +1,5 @@
 -- A block that is kept beside those before it isn't refused.
-use Rattle.std.proofs.Common.{◌≡◌, ◌⊎◌, ℕ, zero, suc, ◌+◌, ◌<◌, ◌≤◌, List, [], ◌∷◌, ◌++◌, length, refl, sym, subst, arith, inl, inr, max, false, ◌==◌}
+use Rattle.std.proofs.Common.{◌≡◌, ◌⊎◌, ℕ, zero, suc, ◌<◌, ◌≤◌, List, [], ◌∷◌, ◌++◌, length, refl, sym, subst, arith, inl, inr, false, ◌==◌}
 use Rattle.std.proofs.lemmas.Bool.Decides.{nat_tests}
 use Rattle.std.specs.List.{Contains}
 use Rattle.std.proofs.lemmas.List.{append_assoc, length-append}
@@ -7,12 +7,11 @@ use Rattle.h5_base.specs.declared.kinds.BlockKind.{BlockKind}
 use Rattle.outside.specs.Blocks.{Block, Bounds, AreApart, IsApart, AllApart, AllSome, IsInside, AllInside, AreKept, Share, placed, most_blocks}
 use Rattle.outside.specs.Blocks.{Again, Shares, Outside, OneMore}
 use Rattle.h5_base.specs.declared.refusal.Refusal.{Refusal}
-use Rattle.outside.specs.Blocks.{IsBlockRefused, IsPlacedRefused}
+use Rattle.outside.specs.Blocks.{IsBlockRefused, IsPlacedRefused, AreTaken}
 
 -- all blocks of a file: those met so far, and those that come
-pub record Room (e : Bounds) (met later : List Block) : Type 0 where
-  pub kept : AreKept e (met ++ later)
-  pub few : length (met ++ later) ≤ most_blocks
+abbrev pub Room : Bounds → List Block → List Block → Type 0
+Room = AreTaken
 
 -- a block beside those met before it
 pub record IsFree (e : Bounds) (met : List Block) (x : Block) : Type 0 where
@@ -33,7 +32,7 @@ apart_turned : (x y : Block) → AreApart x y → AreApart y x
 apart_turned x y (inl h) = inr h
 apart_turned x y (inr h) = inl h
 
-apart_of : (x : Block) (ys : List Block) (y : Block) → IsApart x ys → Contains ys y → AreApart x y
+pub apart_of : (x : Block) (ys : List Block) (y : Block) → IsApart x ys → Contains ys y → AreApart x y
 apart_of x [] y h c = absurd (no_element y c)
 apart_of x (z ∷ zs) y h c = elim (contains_cases z zs y c) [
   | inl is ↦ subst (AreApart x) is h.0
@@ -98,7 +97,7 @@ no_twice : (x y : Block) → 0 < x.len → 0 < y.len → x.start ≡ y.start →
 no_twice x y a b is (inl h) = omega (arith, a, b, is, h)
 no_twice x y a b is (inr h) = omega (arith, a, b, is, h)
 
-no_share : (x y : Block) (at : ℕ) → Share x y at → AreApart x y → ⊥
+pub no_share : (x y : Block) (at : ℕ) → Share x y at → AreApart x y → ⊥
 no_share x y at s (inl h) = let g = s.greater in let a = s.in_first in let c = s.in_second in omega arith
 no_share x y at s (inr h) = let g = s.greater in let a = s.in_first in let c = s.in_second in omega arith
 

@@ -1,20 +1,24 @@
 -- Another body of one message of a header.
-use Rattle.std.proofs.Common.{◌≡◌, ◌≢◌, ℕ, ◌+◌, ◌-◌, ◌<◌, ◌≤◌, ◌%◌, false, List, [], ◌∷◌, ◌++◌, length, map, refl, sym, ap, subst, ◌∙◌, inl, inr, ◌⊎◌, arith, length-append, append-nil, append_assoc}
-use Rattle.std.specs.Prelude.{◌==◌, slice_index}
+use Rattle.std.proofs.Common.{◌≡◌, ◌≢◌, ℕ, ◌+◌, ◌<◌, ◌≤◌, ◌%◌, false, List, [], ◌∷◌, ◌++◌, length, refl, sym, ap, subst, ◌∙◌, inl, inr, ◌⊎◌, arith, length-append, append_assoc}
+use Rattle.std.specs.Prelude.{◌==◌, slice_index, All}
 use Rattle.std.specs.Int.{w16, from_le_bytes}
 use Rattle.std.specs.List.{flat_map}
 use Rattle.std.proofs.lemmas.Bool.{ne_eqb}
 use Rattle.std.proofs.lemmas.Grind.{flat_map-append}
 use Rattle.std.proofs.lemmas.List.FromFn.{length-map-range_with_len, get_or-map-range_with_len}
 use Rattle.std.proofs.lemmas.List.{map-append}
+use Rattle.std.proofs.lemmas.List.Elements.{All-nil, All-cons, All-head, All-tail, All-append}
 use Rattle.outside.specs.Array.{Array, bytes_of}
 use Rattle.outside.specs.Blocks.{Block, AreApart, IsApart, AllApart, Agree}
 use Rattle.h5_base.specs.Fields.{bytes_at, u16_at}
 use Rattle.header_codec.specs.Headers.{SpellsPrefix, SpellsMessage}
 use Rattle.header_codec.specs.declared.types.Prefix.{Prefix}
-use Rattle.file_model.specs.Headers.{Met, Stand, after, AreWhole, continued, Part, IsRead, AreMet, IsHeader, messages_of, first_block, header_blocks}
+use Rattle.file_model.specs.Headers.{Met, Stand, after, AreWhole, continued, Part, IsMet, IsHeader, messages_of, blocks_of_parts}
+use Rattle.file_model.specs.Headers.{first_block, header_blocks}
 use Rattle.file_model.specs.EditLaws.{IsOtherBody, AreButOne, AgreeBeside, OtherBody, BesideWrite}
-use Rattle.file_model.proofs.FrameBytes.{Same, bytes_same, within_same, agree_left}
+use Rattle.file_model.proofs.FrameBytes.{Same, bytes_same, within_same, agree_left, agree_itself}
+use Rattle.file_model.proofs.FrameHeaders.{counted_stays, met_stay}
+use Rattle.file_model.proofs.MetLaws.{AreDrawn, drawn, met_of_drawn, AreEnded, ended_of, counted_of}
 use Rattle.file_model.proofs.PartBytes.{part_bytes}
 
 -- ---- one message
@@ -59,46 +63,58 @@ after_least : (at : ℕ) (ms : List Met) → at ≤ after at ms
 after_least at [] = omega arith
 after_least at (m ∷ ms) = omega (arith, after_least (at + 8 + length m.body) ms)
 
-stand_ends : (b : Array) (s l at : ℕ) (ms : List Met) → at ≤ l → Stand (bytes_of b s l) at ms → after at ms ≤ l
-stand_ends b s l at [] room h = room
-stand_ends b s l at (m ∷ ms) room h =
-    stand_ends b s l (at + 8 + length m.body) ms (message_ends b s l at m.kind m.flags (length m.body) h.0) h.2
-
-stand_same : (b c : Array) (s l at : ℕ) (ms : List Met) → ((i : ℕ) → s + at ≤ i → i < s + l → b i ≡ c i) → Stand (bytes_of b s l) at ms → Stand (bytes_of c s l) at ms
+stand_same : (b c : Array) (s l at : ℕ) (ms : List Met) → ((i : ℕ) → s + at ≤ i → i < s + l → b i ≡ c i)
+    → Stand s (bytes_of b s l) at ms → Stand s (bytes_of c s l) at ms
 stand_same b c s l at [] same h = tt
 stand_same b c s l at (m ∷ ms) same h =
     let n = length m.body in
     let ends = message_ends b s l at m.kind m.flags n h.0 in (
       message_same b c s l at m.kind m.flags n (λ i low high. same i (omega arith) (omega arith)) h.0,
-      h.1 ∙ part_there b c s l (at + 8) n ends (λ i low high. same i (omega arith) (omega arith)),
-      stand_same b c s l (at + 8 + n) ms (λ i low high. same i (omega arith) high) h.2,
+      h.1,
+      h.2 ∙ part_there b c s l (at + 8) n ends (λ i low high. same i (omega arith) (omega arith)),
+      stand_same b c s l (at + 8 + n) ms (λ i low high. same i (omega arith) high) h.3,
     )
 
 -- the same bytes from there to the end of a block, but those of a body
 abbrev SameBeside : Array → Array → (from to place n : ℕ) → Type 0
 SameBeside b c from to place n = (i : ℕ) → from ≤ i → i < to → (i < place) ⊎ (place + n ≤ i) → b i ≡ c i
 
-stand_changed : (b c : Array) (s l at : ℕ) (ms : List Met) (m : Met) (ns : List Met) (body : List ℕ) → length body ≡ length m.body
-    → SameBeside b c (s + at) (s + l) (s + after at ms + 8) (length body) → bytes_of c (s + after at ms + 8) (length body) ≡ body
-    → Stand (bytes_of b s l) at (ms ++ m ∷ ns) → Stand (bytes_of c s l) at (ms ++ record m { body = body } ∷ ns)
+stand_changed : (b c : Array) (s l at : ℕ) (ms : List Met) (m : Met) (ns : List Met) (body : List ℕ)
+    → length body ≡ length m.body → SameBeside b c (s + at) (s + l) (s + after at ms + 8) (length body)
+    → bytes_of c (s + after at ms + 8) (length body) ≡ body → Stand s (bytes_of b s l) at (ms ++ m ∷ ns)
+    → Stand s (bytes_of c s l) at (ms ++ record m { body = body } ∷ ns)
 stand_changed b c s l at [] m ns body long same there h =
     let n = length body in
     let ends = message_ends b s l at m.kind m.flags (length m.body) h.0 in
     let place : s + (at + 8) ≡ s + at + 8 = omega arith in (
       message_same b c s l at m.kind m.flags n (λ i low high. same i (omega arith) (omega arith) (inl (omega arith)))
-          (subst (λ (k : ℕ). SpellsMessage (record { kind = m.kind; flags = m.flags; at = at + 8; len = k }) (bytes_of b s l) at) (sym long) h.0),
+          (subst (λ (k : ℕ). SpellsMessage (record { kind = m.kind; flags = m.flags; at = at + 8; len = k }) (bytes_of b s l) at)
+          (sym long) h.0),
+      h.1,
       sym (part_bytes c s l (at + 8) n (omega arith) ∙ ap (λ (k : ℕ). bytes_of c k n) place ∙ there),
       stand_same b c s l (at + 8 + n) ns (λ i low high. same i (omega arith) high (inr (omega arith)))
-          (subst (λ (k : ℕ). Stand (bytes_of b s l) (at + 8 + k) ns) (sym long) h.2),
+          (subst (λ (k : ℕ). Stand s (bytes_of b s l) (at + 8 + k) ns) (sym long) h.3),
     )
 stand_changed b c s l at (x ∷ ms) m ns body long same there h =
     let n = length x.body in
     let ends = message_ends b s l at x.kind x.flags n h.0 in
     let least = after_least (at + 8 + n) ms in (
       message_same b c s l at x.kind x.flags n (λ i low high. same i (omega arith) (omega arith) (inl (omega arith))) h.0,
-      h.1 ∙ part_there b c s l (at + 8) n ends (λ i low high. same i (omega arith) (omega arith) (inl (omega arith))),
-      stand_changed b c s l (at + 8 + n) ms m ns body long (λ i low high out. same i (omega arith) high out) there h.2,
+      h.1,
+      h.2 ∙ part_there b c s l (at + 8) n ends (λ i low high. same i (omega arith) (omega arith) (inl (omega arith))),
+      stand_changed b c s l (at + 8 + n) ms m ns body long (λ i low high out. same i (omega arith) high out) there h.3,
     )
+
+-- the data of a message stand at its address, within the block
+place_is : (start : ℕ) (bytes : List ℕ) (at : ℕ) (ms : List Met) (m : Met) (ns : List Met)
+    → Stand start bytes at (ms ++ m ∷ ns) → m.at ≡ start + after at ms + 8
+place_is start bytes at [] m ns h = h.1
+place_is start bytes at (x ∷ ms) m ns h = place_is start bytes (at + 8 + length x.body) ms m ns h.3
+
+place_inside : (b : Array) (s l at : ℕ) (ms : List Met) (m : Met) (ns : List Met)
+    → Stand s (bytes_of b s l) at (ms ++ m ∷ ns) → after at ms + 8 + length m.body ≤ l
+place_inside b s l at [] m ns h = message_ends b s l at m.kind m.flags (length m.body) h.0
+place_inside b s l at (x ∷ ms) m ns h = place_inside b s l (at + 8 + length x.body) ms m ns h.3
 
 -- ---- what the changed messages have of the old ones
 
@@ -119,93 +135,49 @@ continued_changed (x ∷ ms) m ns body plain = ap (λ (bs : List Block). continu
 
 -- ---- parts
 
-abbrev blocks_in : List Part → List Block
-blocks_in parts = map (λ p. p.block) parts
-
--- the blocks of the parts, and those left, are those that waited and those that the messages name
-queue : (b : Array) (waiting : List Block) (count : ℕ) (parts : List Part) (left : List Block) (wanted : ℕ) → AreMet b waiting count parts left wanted
-    → blocks_in parts ++ left ≡ waiting ++ flat_map continued (messages_of parts)
-queue b waiting count [] left wanted h = h.0 ∙ sym (append-nil waiting)
-queue b [] count (p ∷ ps) left wanted h = absurd h
-queue b (x ∷ more) count (p ∷ ps) left wanted h =
-    let own = flat_map continued p.messages in
-    let others = flat_map continued (messages_of ps) in
-    let rest = queue b (more ++ own) (count - length p.messages) ps left wanted h.6 in
-    let all = rest ∙ append_assoc more own others ∙ ap (λ (bs : List Block). more ++ bs) (sym (flat_map-append continued p.messages (messages_of ps))) in
-    λ j. h.1 j ∷ all j
-
-met_same : (b c : Array) (waiting : List Block) (count : ℕ) (parts : List Part) (left : List Block) (wanted : ℕ) → Agree b c (blocks_in parts)
-    → AreMet b waiting count parts left wanted → AreMet c waiting count parts left wanted
-met_same b c waiting count [] left wanted agree h = h
-met_same b c [] count (p ∷ ps) left wanted agree h = h
-met_same b c (x ∷ more) count (p ∷ ps) left wanted agree (some, is, stand, whole, few, read, later) =
-    let bytes = bytes_same b c x.start x.len (subst (λ (y : Block). Same b c y.start y.len) is agree.0) in (
-      some,
-      is,
-      subst (λ s. Stand s 0 p.messages) bytes stand,
-      whole,
-      few,
-      subst (λ s. IsRead s count p.messages) bytes read,
-      met_same b c (more ++ flat_map continued p.messages) (count - length p.messages) ps left wanted agree.1 later,
-    )
-
 abbrev part_of : Block → List Met → Part
 part_of x ms = record { block = x; messages = ms }
 
-read_changed : (x y : List ℕ) (count : ℕ) (ms : List Met) (m : Met) (ns : List Met) (body : List ℕ) → length y ≡ length x → length body ≡ length m.body
-    → IsRead x count (ms ++ m ∷ ns) → IsRead y count (ms ++ record m { body = body } ∷ ns)
-read_changed x y count ms m ns body same long (inl h) = let e = after_changed 0 ms m ns body long in inl (omega arith)
-read_changed x y count ms m ns body same long (inr h) = inr (length_changed ms m ns body ∙ h)
+-- the messages of one of the parts are met in one array, and those of the others in the other
+record MetBeside (b c : Array) (before : List Part) (p : Part) (later : List Part) : Type 0 where
+  before_met : All (IsMet c) before
+  here : IsMet b p
+  later_met : All (IsMet c) later
 
--- the data of a message of one part are others
-met_changed : (b c : Array) (waiting : List Block) (count : ℕ) (ps : List Part) (x : Block) (ms : List Met) (m : Met) (ns : List Met) (body : List ℕ) (qs : List Part) (left : List Block) (wanted : ℕ)
-    → m.kind ≢ 0x10 → length body ≡ length m.body → Agree b c (blocks_in ps) → Agree b c (blocks_in qs)
-    → SameBeside b c x.start (x.start + x.len) (x.start + after 0 ms + 8) (length body) → bytes_of c (x.start + after 0 ms + 8) (length body) ≡ body
-    → AreMet b waiting count (ps ++ part_of x (ms ++ m ∷ ns) ∷ qs) left wanted → AreMet c waiting count (ps ++ part_of x (ms ++ record m { body = body } ∷ ns) ∷ qs) left wanted
-met_changed b c [] count [] x ms m ns body qs left wanted plain long before later same there h = absurd h
-met_changed b c (y ∷ more) count [] x ms m ns body qs left wanted plain long before later same there (some, is, stand, whole, few, read, rest) =
-    let zero : x.start + 0 ≡ x.start = omega arith in
-    let new = ms ++ record m { body = body } ∷ ns in
-    let named = continued_changed ms m ns body plain in
-    let many = length_changed ms m ns body in
-    let sizes = length-map-range_with_len c x.start x.len ∙ sym (length-map-range_with_len b x.start x.len) in
-    let rest' = met_same b c (more ++ flat_map continued (ms ++ m ∷ ns)) (count - length (ms ++ m ∷ ns)) qs left wanted later rest in (
-      some,
-      is,
-      subst (λ (z : Block). Stand (bytes_of c z.start z.len) 0 new) is
-          (stand_changed b c x.start x.len 0 ms m ns body long (λ i low. same i (omega arith)) there (subst (λ (z : Block). Stand (bytes_of b z.start z.len) 0 (ms ++ m ∷ ns)) (sym is) stand)),
-      whole_changed ms m ns body long whole,
-      omega arith,
-      subst (λ (z : Block). IsRead (bytes_of c z.start z.len) count new) is
-          (read_changed (bytes_of b x.start x.len) (bytes_of c x.start x.len) count ms m ns body sizes long (subst (λ (z : Block). IsRead (bytes_of b z.start z.len) count (ms ++ m ∷ ns)) (sym is) read)),
-      subst (λ (bs : List Block). AreMet c (more ++ bs) (count - length new) qs left wanted) (sym named)
-          (subst (λ (k : ℕ). AreMet c (more ++ flat_map continued (ms ++ m ∷ ns)) (count - k) qs left wanted) (sym many) rest'),
-    )
-met_changed b c [] count (p ∷ ps) x ms m ns body qs left wanted plain long before later same there h = absurd h
-met_changed b c (y ∷ more) count (p ∷ ps) x ms m ns body qs left wanted plain long before later same there (some, is, stand, whole, few, read, rest) =
-    let bytes = bytes_same b c y.start y.len (subst (λ (z : Block). Same b c z.start z.len) is before.0) in (
-      some,
-      is,
-      subst (λ s. Stand s 0 p.messages) bytes stand,
-      whole,
-      few,
-      subst (λ s. IsRead s count p.messages) bytes read,
-      met_changed b c (more ++ flat_map continued p.messages) (count - length p.messages) ps x ms m ns body qs left wanted plain long before.1 later same there rest,
-    )
+met_beside : (b c : Array) (before : List Part) (p : Part) (later : List Part) → Agree b c (blocks_of_parts before)
+    → Agree b c (blocks_of_parts later) → All (IsMet b) (before ++ p ∷ later) → MetBeside b c before p later
+met_beside b c [] p later before_same later_same h = record {
+  before_met = All-nil (IsMet c);
+  here = All-head (IsMet b) p later h;
+  later_met = met_stay b c later later_same (All-tail (IsMet b) p later h);
+}
+met_beside b c (q ∷ qs) p later before_same later_same h =
+    let rest = met_beside b c qs p later before_same.1 later_same (All-tail (IsMet b) q (qs ++ p ∷ later) h) in
+    let one = met_stay b c (q ∷ []) (before_same.0, tt)
+    (All-cons (IsMet b) q [] (All-head (IsMet b) q (qs ++ p ∷ later) h) (All-nil (IsMet b))) in
+    record {
+      before_met = All-cons (IsMet c) q qs (All-head (IsMet c) q [] one) rest.before_met;
+      here = rest.here;
+      later_met = rest.later_met;
+    }
 
--- the data lie in their part
-place_inside : (b : Array) (waiting : List Block) (count : ℕ) (ps : List Part) (x : Block) (ms : List Met) (m : Met) (ns : List Met) (qs : List Part) (left : List Block) (wanted : ℕ)
-    → AreMet b waiting count (ps ++ part_of x (ms ++ m ∷ ns) ∷ qs) left wanted → after 0 ms + 8 + length m.body ≤ x.len
-place_inside b [] count [] x ms m ns qs left wanted h = absurd h
-place_inside b (y ∷ more) count [] x ms m ns qs left wanted h =
-    inside b x.start x.len 0 ms m ns (subst (λ (z : Block). Stand (bytes_of b z.start z.len) 0 (ms ++ m ∷ ns)) (sym h.1) h.2)
-  where
-    inside : (b : Array) (s l at : ℕ) (ms : List Met) (m : Met) (ns : List Met) → Stand (bytes_of b s l) at (ms ++ m ∷ ns) → after at ms + 8 + length m.body ≤ l
-    inside b s l at [] m ns h = message_ends b s l at m.kind m.flags (length m.body) h.0
-    inside b s l at (z ∷ ms) m ns h = inside b s l (at + 8 + length z.body) ms m ns h.2
-place_inside b [] count (p ∷ ps) x ms m ns qs left wanted h = absurd h
-place_inside b (y ∷ more) count (p ∷ ps) x ms m ns qs left wanted h =
-    place_inside b (more ++ flat_map continued p.messages) (count - length p.messages) ps x ms m ns qs left wanted h.6
+-- a part with other messages there, which name the same blocks
+drawn_changed : (waiting : List Block) (before : List Part) (x : Block) (ms ns : List Met) (later : List Part)
+    (left : List Block) → flat_map continued ns ≡ flat_map continued ms
+    → AreDrawn waiting (before ++ part_of x ms ∷ later) left → AreDrawn waiting (before ++ part_of x ns ∷ later) left
+drawn_changed waiting [] x ms ns later left named (more, is, h) =
+    (more, is, subst (λ (bs : List Block). AreDrawn (more ++ bs) later left) (sym named) h)
+drawn_changed waiting (p ∷ ps) x ms ns later left named (more, is, h) =
+    (more, is, drawn_changed (more ++ flat_map continued p.messages) ps x ms ns later left named h)
+
+-- and as many of which end where the others did
+ended_changed : (b : Array) (before : List Part) (x : Block) (ms ns : List Met) (later : List Part)
+    → length ns ≡ length ms → after 0 ns ≡ after 0 ms → AreEnded b (before ++ part_of x ms ∷ later)
+    → AreEnded b (before ++ part_of x ns ∷ later)
+ended_changed b [] x ms ns [] many ends h = omega arith
+ended_changed b [] x ms ns (q ∷ qs) many ends h = (let end = h.0 in omega arith, h.1)
+ended_changed b (p ∷ []) x ms ns later many ends h = (h.0, ended_changed b [] x ms ns later many ends h.1)
+ended_changed b (p ∷ q ∷ ps) x ms ns later many ends h = (h.0, ended_changed b (q ∷ ps) x ms ns later many ends h.1)
 
 -- ---- the blocks beside the data
 
@@ -249,26 +221,38 @@ smaller_apart x y (z ∷ zs) low high h = (one h.0, smaller_apart x y zs low hig
 abbrev changed_parts : List Part → Block → List Met → Met → List Met → List Part → List Part
 changed_parts before x ahead m behind later = before ++ part_of x (ahead ++ m ∷ behind) ∷ later
 
-header_changed : (b c : Array) (at : ℕ) (prefix : Prefix) (before : List Part) (x : Block) (ahead : List Met) (m : Met) (behind : List Met) (body : List ℕ) (later : List Part)
-    → IsHeader b at prefix (changed_parts before x ahead m behind later) → m.kind ≢ 0x10 → length body ≡ length m.body
-    → AllApart (header_blocks at prefix (changed_parts before x ahead m behind later))
-    → AgreeBeside b c (x.start + after 0 ahead + 8) (length body) (header_blocks at prefix (changed_parts before x ahead m behind later))
-    → bytes_of c (x.start + after 0 ahead + 8) (length body) ≡ body
-    → IsHeader c at prefix (changed_parts before x ahead (record m { body = body }) behind later)
-header_changed b c at prefix before x ahead m behind body later h plain long apart agree there =
-    let n = length body in
-    let place = x.start + after 0 ahead + 8 in
-    let parts = changed_parts before x ahead m behind later in
+spread : (before : List Part) (x : Block) (ahead : List Met) (m : Met) (behind : List Met) (later : List Part)
+    → messages_of (changed_parts before x ahead m behind later)
+    ≡ (messages_of before ++ ahead) ++ m ∷ (behind ++ messages_of later)
+spread before x ahead m behind later =
+    flat_map-append (λ (p : Part). p.messages) before (part_of x (ahead ++ m ∷ behind) ∷ later)
+    ∙ ap (λ (ms : List Met). messages_of before ++ ms) (append_assoc ahead (m ∷ behind) (messages_of later))
+    ∙ sym (append_assoc (messages_of before) ahead (m ∷ (behind ++ messages_of later)))
+
+-- the bytes of a header's parts beside the data of one message
+record PartsBeside (b c : Array) (before : List Part) (x : Block) (place n : ℕ) (later : List Part) : Type 0 where
+  before_same : Agree b c (blocks_of_parts before)
+  here : SameBeside b c x.start (x.start + x.len) place n
+  later_same : Agree b c (blocks_of_parts later)
+
+parts_beside : (b c : Array) (at : ℕ) (prefix : Prefix) (before : List Part) (x : Block) (ms : List Met)
+    (later : List Part) (place n : ℕ) → (h : IsHeader b at prefix (before ++ part_of x ms ∷ later))
+    → x.start ≤ place → place + n ≤ x.start + x.len
+    → AllApart (header_blocks at prefix (before ++ part_of x ms ∷ later))
+    → AgreeBeside b c place n (header_blocks at prefix (before ++ part_of x ms ∷ later))
+    → Same b c at 16 × PartsBeside b c before x place n later
+parts_beside b c at prefix before x ms later place n h low high apart agree =
+    let parts = before ++ part_of x ms ∷ later in
     let others = flat_map continued (messages_of parts) in
     let head : Block = record { start = at; len = 16 + prefix.size } in
     let front : Block = record { start = at; len = 16 } in
     let first = first_block at prefix in
-    let inside = place_inside b (first ∷ []) prefix.messages before x ahead m behind later h.unread 0 h.met in
-    let blocks : front ∷ first ∷ others ≡ (front ∷ blocks_in before) ++ x ∷ (blocks_in later ++ h.unread) =
+    let us = front ∷ blocks_of_parts before in
+    let vs = blocks_of_parts later ++ h.unread in
+    let blocks : front ∷ first ∷ others ≡ us ++ x ∷ vs =
     ap (λ (bs : List Block). front ∷ bs)
-    (sym (queue b (first ∷ []) prefix.messages parts h.unread 0 h.met)
-    ∙ ap (λ (bs : List Block). bs ++ h.unread) (map-append (λ (p : Part). p.block) before (part_of x (ahead ++ m ∷ behind) ∷ later))
-    ∙ append_assoc (blocks_in before) (x ∷ blocks_in later) h.unread) in
+    (h.met.rest ∙ ap (λ (bs : List Block). bs ++ h.unread) (map-append (λ (p : Part). p.block) before (part_of x ms ∷ later))
+    ∙ append_assoc (blocks_of_parts before) (x ∷ blocks_of_parts later) h.unread) in
     let all_apart : AllApart (front ∷ first ∷ others) = (
       (inl (omega arith), smaller_apart head front others (omega arith) (omega arith) apart.0),
       (smaller_apart head first others (omega arith) (omega arith) apart.0, apart.1),
@@ -277,42 +261,108 @@ header_changed b c at prefix before x ahead m behind body later h plain long apa
       λ i low high. agree.0 i low (omega arith),
       (λ i low high. agree.0 i (omega arith) (omega arith), agree.1),
     ) in
-    let split = beside_split b c (front ∷ blocks_in before) x (blocks_in later ++ h.unread) place n (omega arith) (omega arith)
-    (subst AllApart blocks all_apart) (subst (AgreeBeside b c place n) blocks all_agree) in
+    let split = beside_split b c us x vs place n low high (subst AllApart blocks all_apart)
+    (subst (AgreeBeside b c place n) blocks all_agree) in (
+      split.0.0,
+      record {
+        before_same = split.0.1;
+        here = split.1;
+        later_same = agree_left b c (blocks_of_parts later) h.unread split.2;
+      },
+    )
+
+-- what a header has of its parts with another body of one message, whose data stand in its block
+record Changes (b c : Array) (x : Block) (ahead : List Met) (m : Met) (behind : List Met) (body : List ℕ) : Type 0 where
+  plain : m.kind ≢ 0x10
+  long : length body ≡ length m.body
+  same : SameBeside b c x.start (x.start + x.len) (x.start + after 0 ahead + 8) (length body)
+  there : bytes_of c (x.start + after 0 ahead + 8) (length body) ≡ body
+
+is_met_changed : (b c : Array) (x : Block) (ahead : List Met) (m : Met) (behind : List Met) (body : List ℕ)
+    → Changes b c x ahead m behind body → IsMet b (part_of x (ahead ++ m ∷ behind))
+    → IsMet c (part_of x (ahead ++ record m { body = body } ∷ behind))
+is_met_changed b c x ahead m behind body k h = record {
+  stand = stand_changed b c x.start x.len 0 ahead m behind body k.long (λ i low. k.same i (omega arith)) k.there h.stand;
+  whole = whole_changed ahead m behind body k.long h.whole;
+}
+
+header_changed : (b c : Array) (at : ℕ) (prefix : Prefix) (before : List Part) (x : Block) (ahead : List Met) (m : Met)
+    (behind : List Met) (body : List ℕ) (later : List Part)
+    → IsHeader b at prefix (changed_parts before x ahead m behind later) → Same b c at 16
+    → Agree b c (blocks_of_parts before) → Agree b c (blocks_of_parts later) → Changes b c x ahead m behind body
+    → IsHeader c at prefix (changed_parts before x ahead (record m { body = body }) behind later)
+header_changed b c at prefix before x ahead m behind body later h front before_same later_same k =
+    let first = first_block at prefix in
+    let old = ahead ++ m ∷ behind in
+    let new = ahead ++ record m { body = body } ∷ behind in
+    let parts = changed_parts before x ahead m behind later in
+    let changed = changed_parts before x ahead (record m { body = body }) behind later in
+    let beside = met_beside b c before (part_of x old) later before_same later_same h.met.met in
+    let here = is_met_changed b c x ahead m behind body k beside.here in
+    let read = drawn_changed (first ∷ []) before x old new later h.unread (continued_changed ahead m behind body k.plain)
+    (drawn b first parts h.unread h.met) in
+    let ended = ended_changed c before x old new later (length_changed ahead m behind body)
+    (after_changed 0 ahead m behind body k.long)
+    (ended_of c prefix.messages parts (counted_stays b c prefix.messages parts h.counted)) in
+    let many : length (messages_of changed) ≡ length (messages_of parts) =
+    ap length (spread before x ahead (record m { body = body }) behind later)
+    ∙ length_changed (messages_of before ++ ahead) m (behind ++ messages_of later) body
+    ∙ sym (ap length (spread before x ahead m behind later)) in
     record {
-      spelled = subst (SpellsPrefix prefix) (bytes_same b c at 16 split.0.0) h.spelled;
+      spelled = subst (SpellsPrefix prefix) (bytes_same b c at 16 front) h.spelled;
       unread = h.unread;
-      met = met_changed b c (first ∷ []) prefix.messages before x ahead m behind body later h.unread 0 plain long split.0.1
-          (agree_left b c (blocks_in later) h.unread split.2) split.1 there h.met;
+      met = met_of_drawn c first changed h.unread read
+          (All-append (IsMet c) before (part_of x new ∷ later) beside.before_met
+          (All-cons (IsMet c) (part_of x new) later here beside.later_met));
+      counted = counted_of c prefix.messages changed ended (many ∙ h.counted.number);
     }
 
-spread : (before : List Part) (x : Block) (ahead : List Met) (m : Met) (behind : List Met) (later : List Part)
-    → messages_of (changed_parts before x ahead m behind later) ≡ (messages_of before ++ ahead) ++ m ∷ (behind ++ messages_of later)
-spread before x ahead m behind later =
-    flat_map-append (λ (p : Part). p.messages) before (part_of x (ahead ++ m ∷ behind) ∷ later)
-    ∙ ap (λ (ms : List Met). messages_of before ++ ms) (append_assoc ahead (m ∷ behind) (messages_of later))
-    ∙ sym (append_assoc (messages_of before) ahead (m ∷ (behind ++ messages_of later)))
-
-but_one : (parts changed : List Part) (place : ℕ) (m : Met) (body : List ℕ) → IsOtherBody parts changed place m body → AreButOne m body (messages_of parts) (messages_of changed)
-but_one parts changed place m body o = record {
+but_one : (parts changed : List Part) (m : Met) (body : List ℕ) → IsOtherBody parts changed m body
+    → AreButOne m body (messages_of parts) (messages_of changed)
+but_one parts changed m body o = record {
   ahead = messages_of o.before ++ o.ahead;
   behind = o.behind ++ messages_of o.later;
   were = ap messages_of o.old ∙ spread o.before o.block o.ahead m o.behind o.later;
   are = ap messages_of o.new ∙ spread o.before o.block o.ahead (record m { body = body }) o.behind o.later;
 }
 
+-- the same, of parts that are spelled out
+header_other : (b c : Array) (at : ℕ) (prefix : Prefix) (before : List Part) (x : Block) (ahead : List Met) (m : Met)
+    (behind : List Met) (body : List ℕ) (later : List Part)
+    → IsHeader b at prefix (changed_parts before x ahead m behind later) → m.kind ≢ 0x10 → length body ≡ length m.body
+    → AllApart (header_blocks at prefix (changed_parts before x ahead m behind later))
+    → AgreeBeside b c m.at (length body) (header_blocks at prefix (changed_parts before x ahead m behind later))
+    → bytes_of c m.at (length body) ≡ body
+    → IsHeader c at prefix (changed_parts before x ahead (record m { body = body }) behind later)
+header_other b c at prefix before x ahead m behind body later h plain long apart agree there =
+    let n = length body in
+    let place = x.start + after 0 ahead + 8 in
+    let parts = changed_parts before x ahead m behind later in
+    let here = (met_beside b b before (part_of x (ahead ++ m ∷ behind)) later
+    (agree_itself b (blocks_of_parts before)) (agree_itself b (blocks_of_parts later)) h.met.met).here in
+    let is : m.at ≡ place = place_is x.start (bytes_of b x.start x.len) 0 ahead m behind here.stand in
+    let inside = place_inside b x.start x.len 0 ahead m behind here.stand in
+    let beside = parts_beside b c at prefix before x (ahead ++ m ∷ behind) later place n h (omega arith) (omega arith) apart
+    (subst (λ (k : ℕ). AgreeBeside b c k n (header_blocks at prefix parts)) is agree) in
+    header_changed b c at prefix before x ahead m behind body later h beside.0 beside.1.before_same beside.1.later_same
+    (record {
+      plain = plain;
+      long = long;
+      same = beside.1.here;
+      there = subst (λ (k : ℕ). bytes_of c k n ≡ body) is there;
+    })
+
 pub other_body : OtherBody
-other_body b c at prefix parts changed place m body h o plain long apart agree there =
-    let place' = o.block.start + after 0 o.ahead + 8 in
-    let one = but_one parts changed place m body o in
+other_body b c at prefix parts changed m body h o plain long apart agree there =
+    let one = but_one parts changed m body o in
     let head : Block = record { start = at; len = 16 + prefix.size } in
     let named : flat_map continued (messages_of changed) ≡ flat_map continued (messages_of parts) =
-    ap (flat_map continued) one.are ∙ continued_changed one.ahead m one.behind body plain ∙ ap (flat_map continued) (sym one.were) in
-    let old = changed_parts o.before o.block o.ahead m o.behind o.later in
-    let stays = header_changed b c at prefix o.before o.block o.ahead m o.behind body o.later
-    (subst (IsHeader b at prefix) o.old h) plain long (subst (λ ps. AllApart (header_blocks at prefix ps)) o.old apart)
-    (subst (λ ps. AgreeBeside b c place' (length body) (header_blocks at prefix ps)) o.old (subst (λ k. AgreeBeside b c k (length body) (header_blocks at prefix parts)) o.stands agree))
-    (subst (λ k. bytes_of c k (length body) ≡ body) o.stands there) in
+    ap (flat_map continued) one.are ∙ continued_changed one.ahead m one.behind body plain
+    ∙ ap (flat_map continued) (sym one.were) in
+    let stays = header_other b c at prefix o.before o.block o.ahead m o.behind body o.later
+    (subst (IsHeader b at prefix) o.old h) plain long
+    (subst (λ (ps : List Part). AllApart (header_blocks at prefix ps)) o.old apart)
+    (subst (λ (ps : List Part). AgreeBeside b c m.at (length body) (header_blocks at prefix ps)) o.old agree) there in
     (subst (IsHeader c at prefix) (sym o.new) stays, one, ap (λ (bs : List Block). head ∷ bs) named)
 
 pub beside_write : BesideWrite

@@ -2,6 +2,7 @@
 use Rattle.std.proofs.Common.{◌≡◌, ℕ, true, false, List, [], ◌∷◌, ◌++◌, is_some, refl, sym, ◌∙◌, ap, subst, arith}
 use Rattle.outside.specs.Array.{Array, bytes_of}
 use Rattle.super_codec.specs.declared.superblock.Superblock.{Superblock}
+use Rattle.header_codec.specs.Headers.{SpellsPrefix}
 use Rattle.header_codec.specs.declared.types.Prefix.{Prefix}
 use Rattle.object_model.specs.Tree.{Group, Leaf, Empty, Link}
 use Rattle.file_model.specs.Headers.{Met, Part, IsHeader, header_blocks, messages_of, later_header}
@@ -52,11 +53,15 @@ data_are b ks d e at x y =
     (λ j. record { header_at = at j; info = info j; chunks = same.0 j; elements = elements j; own = own j })
 
 -- a header of version 1 doesn't begin as one of a later version
-pub not_later : (b : Array) (at : ℕ) (p : Prefix) (ps : List Part) → IsHeader b at p ps → bytes_of b at 4 ≡ later_header → ⊥
-not_later b at p ps h is =
-    let one : b at ≡ 1 = h.spelled.prefix.version in
+pub later_no_prefix : (b : Array) (at : ℕ) (p : Prefix) → bytes_of b at 4 ≡ later_header
+    → SpellsPrefix p (bytes_of b at 16) → ⊥
+later_no_prefix b at p is h =
+    let one : b at ≡ 1 = h.prefix.version in
     let other : b at ≡ 0x4F = cc in
-    absurd (omega arith)
+    omega (arith, one, other)
+
+pub not_later : (b : Array) (at : ℕ) (p : Prefix) (ps : List Part) → IsHeader b at p ps → bytes_of b at 4 ≡ later_header → ⊥
+not_later b at p ps h is = later_no_prefix b at p is h.spelled
 
 other_are : (b : Array) (o u : OtherAt) → o.header_at ≡ u.header_at → IsUnknown b o → IsUnknown b u → o ≡ u
 other_are b o u at (Unsupported x) (Unsupported y) =

@@ -8,19 +8,20 @@ use Rattle.dtype.specs.Products.{product}
 use Rattle.dtype.specs.Types.{size_of}
 use Rattle.header_codec.specs.declared.types.Layout.TheVariants as layout
 use Rattle.header_codec.specs.declared.types.Prefix.{Prefix}
-use Rattle.node_codec.specs.declared.chunk_node.ChunkKey.{ChunkKey}
 use Rattle.object_model.specs.Tree.{Name, name_lt}
 use Rattle.outside.specs.Blocks.{Block, Bounds, AreKept}
 use Rattle.file_model.specs.Headers.{Met, Part, header_blocks}
 use Rattle.file_model.specs.Objects.{DataInfo, IsDataHeader}
-use Rattle.file_model.specs.Groups.{Ks, Found, HasText, AreChildren, IsLeaf, HasLinks}
-use Rattle.file_model.specs.Chunks.{Chunk, IsStored, stored_at}
+use Rattle.file_model.specs.Index.{Next}
+use Rattle.file_model.specs.Groups.{Ks, Found, LeafNode, GroupIndex, GroupIndexes, HasText, AreKeyed, IsLeaf, HasLinks}
+use Rattle.file_model.specs.Groups.{links_under}
+use Rattle.file_model.specs.Chunks.{Chunk, StoredChunk, IsStored, stored_at}
 
 -- names out of order in a symbol table node
 abbrev pub DisorderInNode : Type 0
-DisorderInNode = (b : Array) (ks : Ks) (segment : List ℕ) (at : ℕ) (f g : Found) (fs : List Found) (bs : List Block)
-    → name_lt f.name g.name ≡ false
-    → IsLeaf b ks segment at (f ∷ g ∷ fs) bs → ⊥
+DisorderInNode = (b : Array) (ks : Ks) (segment : List ℕ) (s : LeafNode) (f g : Found) (fs : List Found)
+    → name_lt f.name g.name ≡ false → s.links ≡ f ∷ g ∷ fs
+    → IsLeaf b ks segment s → ⊥
 
 -- and between nodes: in the list of a whole group
 abbrev pub DisorderInGroup : Type 0
@@ -30,23 +31,21 @@ DisorderInGroup = (b : Array) (ks : Ks) (tree heap : ℕ) (f g : Found) (fs : Li
 
 -- a name that is not above the key before it
 abbrev pub NameBelowKey : Type 0
-NameBelowKey = (segment : List ℕ) (low : Name) (k l c : ℕ) (f : Found) (here : List Found) (own bs : List Block)
-    → HasText segment k low → name_lt low f.name ≡ false
-    → AreChildren segment (λ at fs blocks. (at ≡ c) × (fs ≡ f ∷ here)
-    × (blocks ≡ own)) (k ∷ l ∷ []) (c ∷ []) (f ∷ here) bs → ⊥
+NameBelowKey = (segment keys : List ℕ) (low : Name) (k : ℕ) (f : Found) (here : List Found) (x : GroupIndex)
+    (xs : GroupIndexes) → HasText segment k low → name_lt low f.name ≡ false → links_under x ≡ f ∷ here
+    → AreKeyed segment (k ∷ keys) (Next x xs) → ⊥
 
 -- or above the key behind it
 abbrev pub NameAboveKey : Type 0
-NameAboveKey = (segment : List ℕ) (high : Name) (k l c : ℕ) (f : Found) (here : List Found) (own bs : List Block)
-    → HasText segment l high → (name_lt high f.name ≡ false → ⊥)
-    → AreChildren segment (λ at fs blocks. (at ≡ c) × (fs ≡ f ∷ here)
-    × (blocks ≡ own)) (k ∷ l ∷ []) (c ∷ []) (f ∷ here) bs → ⊥
+NameAboveKey = (segment keys : List ℕ) (high : Name) (k l : ℕ) (f : Found) (here : List Found) (x : GroupIndex)
+    (xs : GroupIndexes) → HasText segment l high → (name_lt high f.name ≡ false → ⊥) → links_under x ≡ f ∷ here
+    → AreKeyed segment (k ∷ l ∷ keys) (Next x xs) → ⊥
 
--- a key whose text is outside the segment, beside the first symbol table node
+-- a key beside a child whose text is outside the segment
 abbrev pub KeyOutside : Type 0
-KeyOutside = (b : Array) (ks : Ks) (segment keys children : List ℕ) (k l c : ℕ) (fs : List Found) (bs : List Block)
+KeyOutside = (segment keys : List ℕ) (k l : ℕ) (x : GroupIndex) (xs : GroupIndexes)
     → (length segment ≤ k) ⊎ (length segment ≤ l)
-    → AreChildren segment (IsLeaf b ks segment) (k ∷ l ∷ keys) (c ∷ children) fs bs → ⊥
+    → AreKeyed segment (k ∷ l ∷ keys) (Next x xs) → ⊥
 
 -- two blocks that share a byte
 abbrev pub SharedByte : Type 0
@@ -69,9 +68,8 @@ OwnContinuation = (e : Bounds) (at : ℕ) (prefix : Prefix) (p : Part) (parts : 
 
 -- a chunk whose offset is no multiple of its size
 abbrev pub LooseChunk : Type 0
-LooseChunk = (size element : ℕ) (key : ChunkKey) (n at : ℕ) (cs : List Chunk) (bs : List Block) → key.offset ≡ n ∷ []
-    → n % size ≢ 0
-    → IsStored 1 (size ∷ element ∷ []) key at cs bs → ⊥
+LooseChunk = (size element n : ℕ) (c : StoredChunk) → c.key.offset ≡ n ∷ [] → n % size ≢ 0
+    → IsStored 1 (size ∷ element ∷ []) c → ⊥
 
 -- a dataspace whose elements have too many bytes
 abbrev pub HugeSpace : Type 0

@@ -1,7 +1,7 @@
 -- The chunks of a dataset, from left to right under its B-tree, and where its elements lie, by the HDF5 File Format
 -- Specification 3.0, III.A.1 (B-tree nodes) and IV.A.2.i (layout).
 -- Cited by what a file's bytes hold.
-use Rattle.std.specs.Prelude.{◌≡◌, ℕ, zero, suc, ◌+◌, ◌*◌, ◌%◌, ◌==◌, Bool, true, false, not, ◌&&◌, List, [], ◌∷◌, ◌++◌}
+use Rattle.std.specs.Prelude.{◌≡◌, ℕ, zero, suc, ◌+◌, ◌*◌, ◌%◌, ◌==◌, Bool, true, false, not, ◌&&◌, List, [], ◌∷◌}
 use Rattle.std.specs.Prelude.{length, take, Option, Some, None, IsTrue, if◌then◌else◌}
 use Rattle.std.specs.Ordering.{is_lt, nat_cmp}
 use Rattle.std.specs.Cmp.Lexicographic.{slice_cmp}
@@ -18,6 +18,7 @@ use Rattle.node_codec.specs.declared.chunk_node.ChunkKey.{ChunkKey}
 use Rattle.object_model.specs.Boxes.{place, minus, floor_to}
 use Rattle.object_model.specs.Data.{elements_by}
 use Rattle.outside.specs.Blocks.{Block, placed}
+use Rattle.file_model.specs.Index.{Index, Indexes, Bottom, Node, NoMore, Next, gather, gather_in, each}
 use Rattle.file_model.specs.Objects.{DataInfo}
 
 -- a chunk: the index of its first element, and its address
@@ -55,9 +56,53 @@ abbrev pub IsAtMost : List ℕ → List Chunk → Type 0
 IsAtMost key [] = Unit {0}
 IsAtMost key (c ∷ cs) = (comes_before c.offset key ≡ false) × IsAtMost key cs
 
--- What stands under a child with its key: its chunks from left to right, and its blocks.
-abbrev pub Under : Type 1
-Under = ChunkKey → ℕ → List Chunk → List Block → Type 0
+-- ---- the index as a value
+
+-- a chunk that is stored: its key, and its address
+pub record StoredChunk : Type 0 where
+  pub key : ChunkKey
+  pub at : ℕ
+
+-- a node of the B-tree: its address, and what its block tells
+pub record ChunkTreeNode : Type 0 where
+  pub at : ℕ
+  pub node : ChunkNode
+
+-- The index of a dataset's chunks: the nodes of its B-tree, with the chunks under level 0.
+abbrev pub ChunkIndex : Type 0
+ChunkIndex = Index ChunkTreeNode StoredChunk
+
+abbrev pub ChunkIndexes : Type 0
+ChunkIndexes = Indexes ChunkTreeNode StoredChunk
+
+abbrev pub address_of : ChunkIndex → ℕ
+address_of (Bottom c) = c.at
+address_of (Node n xs) = n.at
+
+abbrev pub chunk_told : StoredChunk → Chunk
+chunk_told c = record { offset = c.key.offset; at = c.at }
+
+-- its chunks, from left to right
+abbrev pub chunks_under : ChunkIndex → List Chunk
+chunks_under = gather (λ n. []) (λ c. chunk_told c ∷ [])
+
+abbrev pub chunks_within : ChunkIndexes → List Chunk
+chunks_within = gather_in (λ n. []) (λ c. chunk_told c ∷ [])
+
+abbrev pub node_block : (k rank at : ℕ) → Block
+node_block k rank at = record { start = at; len = chunk_node_len k rank }
+
+abbrev pub chunk_block : List ℕ → ℕ → Block
+chunk_block sizes at = record { start = at; len = product sizes }
+
+-- its blocks, each node before what is below it
+abbrev pub index_blocks : (k rank : ℕ) → List ℕ → ChunkIndex → List Block
+index_blocks k rank sizes = gather (λ n. node_block k rank n.at ∷ []) (λ c. chunk_block sizes c.at ∷ [])
+
+abbrev pub blocks_within : (k rank : ℕ) → List ℕ → ChunkIndexes → List Block
+blocks_within k rank sizes = gather_in (λ n. node_block k rank n.at ∷ []) (λ c. chunk_block sizes c.at ∷ [])
+
+-- ---- how it lies in the file
 
 -- the key before a child is at most each offset under it; the first key of a node is free
 abbrev pub IsFrom : (first : Bool) → List ℕ → List Chunk → Type 0
@@ -69,41 +114,61 @@ abbrev pub IsBelow : (later : List ℕ) → List ℕ → List Chunk → Type 0
 IsBelow [] key cs = Unit {0}
 IsBelow (a ∷ later) key cs = IsAbove key cs
 
--- Children and the keys on both sides of each: the chunks in order, and the blocks.
-abbrev pub AreChildren : Under → (first : Bool) → List ChunkKey → List ℕ → List Chunk → List Block → Type 0
-AreChildren Child first keys [] cs bs = (cs ≡ []) × (bs ≡ [])
-AreChildren Child first [] (a ∷ rest) cs bs = ⊥
-AreChildren Child first (k ∷ []) (a ∷ rest) cs bs = ⊥
-AreChildren Child first (k ∷ l ∷ ks) (a ∷ rest) cs bs =
-    (here later : List Chunk) × (own more : List Block) × Child k a here own
-    × AreChildren Child false (l ∷ ks) rest later more
-    × IsFrom first k.offset here × IsBelow rest l.offset here × (cs ≡ here ++ later) × (bs ≡ own ++ more)
-
 -- the sizes of a chunk in elements, and its bytes
 abbrev pub chunk_sizes : ℕ → List ℕ → List ℕ
 chunk_sizes rank sizes = take rank sizes
 
--- A chunk that is stored: whole, its key telling where it begins and how many bytes it has.
-pub record IsStored (rank : ℕ) (sizes : List ℕ) (key : ChunkKey) (at : ℕ) (cs : List Chunk)
-    (bs : List Block) : Type 0 where
-  pub bytes : key.bytes ≡ product sizes
-  pub multiples : AreMultiples (chunk_sizes rank sizes) key.offset
-  pub chunk : cs ≡ record { offset = key.offset; at = at } ∷ []
-  pub block : bs ≡ record { start = at; len = product sizes } ∷ []
+-- A chunk that is stored is whole: its key tells where it begins and how many bytes it has.
+pub record IsStored (rank : ℕ) (sizes : List ℕ) (c : StoredChunk) : Type 0 where
+  pub bytes : c.key.bytes ≡ product sizes
+  pub multiples : AreMultiples (chunk_sizes rank sizes) c.key.offset
 
-pub record IsNode (b : Array) (k rank : ℕ) (level : ℕ) (Child : Under) (at : ℕ) (cs : List Chunk)
-    (bs : List Block) : Type 0 where
-  pub node : ChunkNode
-  pub spelled : SpellsChunkNode k rank node (bytes_of b at (chunk_node_len k rank))
-  pub level_is : node.level ≡ level
-  pub below : List Block
-  pub children : AreChildren Child true node.keys node.children cs below
-  pub blocks : bs ≡ record { start = at; len = chunk_node_len k rank } ∷ below
+-- The block of a node spells it, with this level and these children.
+pub record IsNode (b : Array) (k rank level : ℕ) (n : ChunkTreeNode) (children : List ℕ) : Type 0 where
+  pub spelled : SpellsChunkNode k rank n.node (bytes_of b n.at (chunk_node_len k rank))
+  pub level_is : n.node.level ≡ level
+  pub children_are : n.node.children ≡ children
 
--- a chunk index of this level: under level 0 stand the chunks
-abbrev pub IsIndex : Array → ℕ → ℕ → List ℕ → ℕ → ℕ → List Chunk → List Block → Type 0
-IsIndex b k rank sizes zero = IsNode b k rank 0 (IsStored rank sizes)
-IsIndex b k rank sizes (suc level) = IsNode b k rank (suc level) (λ key. IsIndex b k rank sizes level)
+-- the key before a chunk is its own
+abbrev pub HasKey : ChunkKey → ChunkIndex → Type 0
+HasKey k (Bottom c) = c.key ≡ k
+HasKey k (Node n xs) = Unit {0}
+
+-- Each child has the key before it; each key between two children is above each offset before it, and at most each one
+-- behind it.
+abbrev pub AreKeyed : (first : Bool) → List ChunkKey → ChunkIndexes → Type 0
+AreKeyed first keys NoMore = Unit {0}
+AreKeyed first [] (Next x xs) = ⊥
+AreKeyed first (k ∷ []) (Next x xs) = ⊥
+AreKeyed first (k ∷ l ∷ ks) (Next x xs) = HasKey k x × IsFrom first k.offset (chunks_under x)
+    × IsBelow (each address_of xs) l.offset (chunks_under x) × AreKeyed false (l ∷ ks) xs
+
+-- The index lies in the file: its height is 0 for a chunk, and one more than the level for a node of the B-tree.
+abbrev mutual
+  pub IsIndex : Array → (k rank : ℕ) → List ℕ → (height : ℕ) → ChunkIndex → Type 0
+  IsIndex b k rank sizes zero (Bottom c) = IsStored rank sizes c
+  IsIndex b k rank sizes zero (Node n xs) = ⊥
+  IsIndex b k rank sizes (suc level) (Bottom c) = ⊥
+  IsIndex b k rank sizes (suc level) (Node n xs) = IsNode b k rank level n (each address_of xs)
+      × AreIndexes b k rank sizes level xs × AreKeyed true n.node.keys xs
+
+  pub AreIndexes : Array → (k rank : ℕ) → List ℕ → (height : ℕ) → ChunkIndexes → Type 0
+  AreIndexes b k rank sizes height NoMore = Unit {0}
+  AreIndexes b k rank sizes height (Next x xs) = IsIndex b k rank sizes height x × AreIndexes b k rank sizes height xs
+
+-- What stands at an address behind a key: its chunks from left to right, and its blocks.
+abbrev pub Under : Type 1
+Under = ChunkKey → ℕ → List Chunk → List Block → Type 0
+
+-- an index of this height stands at the address, behind this key, with these chunks and blocks
+pub record StandsAt (b : Array) (k rank : ℕ) (sizes : List ℕ) (height : ℕ) (key : ChunkKey) (at : ℕ) (cs : List Chunk)
+    (bs : List Block) : Type 0 where
+  pub index : ChunkIndex
+  pub stands : IsIndex b k rank sizes height index
+  pub address : address_of index ≡ at
+  pub behind : HasKey key index
+  pub chunks : cs ≡ chunks_under index
+  pub blocks : bs ≡ index_blocks k rank sizes index
 
 -- ---- what is stored of a dataset
 
@@ -111,10 +176,21 @@ IsIndex b k rank sizes (suc level) = IsNode b k rank (suc level) (λ key. IsInde
 abbrev pub is_read : DataInfo → ℕ → Bool
 is_read i tree = not (tree == undefined) && not i.filtered
 
--- the chunks under an index that is read, in strictly ascending order, and its blocks
+-- The chunks under an index that is read, in strictly ascending order, and its blocks.
+pub record IsRooted (b : Array) (k rank : ℕ) (sizes : List ℕ) (tree : ℕ) (cs : List Chunk) (bs : List Block) : Type 0
+  where
+    pub level : ℕ
+    pub index : ChunkIndex
+    pub root : address_of index ≡ tree
+    pub stands : IsIndex b k rank sizes (suc level) index
+    pub chunks : cs ≡ chunks_under index
+    pub ascending : AreAscending cs
+    pub blocks : bs ≡ index_blocks k rank sizes index
+
+-- of an index that isn't read there is nothing
 abbrev pub IsIndexed : Bool → Array → ℕ → ℕ → List ℕ → ℕ → List Chunk → List Block → Type 0
 IsIndexed false b k rank sizes tree cs bs = (cs ≡ []) × (bs ≡ [])
-IsIndexed true b k rank sizes tree cs bs = (level : ℕ) × IsIndex b k rank sizes level tree cs bs × AreAscending cs
+IsIndexed true b k rank sizes tree cs bs = IsRooted b k rank sizes tree cs bs
 
 -- The chunks of a dataset, and the blocks of its elements: one block, or an index and its chunks. An undefined address
 -- has none, and neither has an index that isn't read.

@@ -26,7 +26,7 @@ use Rattle.header_codec.specs.declared.types.Prefix.{Prefix}
 use Rattle.object_model.specs.Tree.{Group, Name, names, AreOrdered, IsOrdered, find, walk, edit, insert}
 use Rattle.object_model.specs.Tree.{remove, map_links, ◌>>=◌}
 use Rattle.object_model.specs.Step.{Plain, PlainLinks}
-use Rattle.file_model.specs.Headers.{Met, Part, after, IsHeader, messages_of, header_blocks}
+use Rattle.file_model.specs.Headers.{Met, Part, IsHeader, messages_of, header_blocks}
 use Rattle.file_model.specs.Objects.{DataInfo, IsGroupHeader, IsDataHeader, fill_bytes, first_of, has}
 use Rattle.file_model.specs.Groups.{Ks, Found, HasLinks}
 use Rattle.file_model.specs.Holds.{Full, FullLinks, GroupAt, IsHeld, blocks_of, blocks_in, founds, target_of, plain}
@@ -218,28 +218,30 @@ PlainChange = (p : List Name) (f : Full → Full) (h : Plain → Plain) (t : Ful
 
 -- ---- new headers
 
--- a message as it was written
-abbrev pub met_of : NewMessage → Met
-met_of p = record { kind = p.kind; flags = 0; body = p.body }
+-- messages as they were written, from an address on
+abbrev pub mets_from : ℕ → List NewMessage → List Met
+mets_from at [] = []
+mets_from at (p ∷ ps) = record { kind = p.kind; flags = 0; at = at + 8; body = p.body }
+    ∷ mets_from (at + 8 + length p.body) ps
 
 -- the prefix of a written header of n bytes, and its one block of messages
 abbrev pub new_prefix : ℕ → List NewMessage → Prefix
 new_prefix n ps = record { messages = length ps; links = 1; size = n - 16 }
 
 abbrev pub new_parts : ℕ → ℕ → List NewMessage → List Part
-new_parts at n ps = record { block = record { start = at + 16; len = n - 16 }; messages = map met_of ps } ∷ []
+new_parts at n ps = record { block = record { start = at + 16; len = n - 16 }; messages = mets_from (at + 16) ps } ∷ []
 
 -- The n bytes from an address on are a header with just these messages, and its one block.
 pub record IsNewHeader (b : Array) (at n : ℕ) (ps : List NewMessage) : Type 0 where
   pub header : IsHeader b at (new_prefix n ps) (new_parts at n ps)
-  pub messages : messages_of (new_parts at n ps) ≡ map met_of ps
+  pub messages : messages_of (new_parts at n ps) ≡ mets_from (at + 16) ps
   pub blocks : header_blocks at (new_prefix n ps) (new_parts at n ps) ≡ record { start = at; len = n } ∷ []
 
 -- what is written as a group's header is the header of a group, with its B-tree and heap
 abbrev pub NewGroup : Type 0
 NewGroup = (b : Array) (at n tree heap : ℕ) (ps : List NewMessage)
     → SpellsHeader (new.Group tree heap) ps (bytes_of b at n)
-    → IsNewHeader b at n ps × IsGroupHeader (map met_of ps) tree heap
+    → IsNewHeader b at n ps × IsGroupHeader (mets_from (at + 16) ps) tree heap
 
 -- what the messages of a new dataset tell
 abbrev pub new_info : Shape → ElemType → Fill → Layout → DataInfo
@@ -258,7 +260,7 @@ NewData = (b : Array) (at n : ℕ) (space : Shape) (elem : ElemType) (fill : Fil
     → SpellsHeader (new.Dataset space elem fill layout) ps (bytes_of b at n)
     → FitsFile space.dims (size_of elem) → IsOfShape (length space.dims) (size_of elem) layout
     → IsOfSize (size_of elem) fill
-    → IsNewHeader b at n ps × IsDataHeader (map met_of ps) (new_info space elem fill layout)
+    → IsNewHeader b at n ps × IsDataHeader (mets_from (at + 16) ps) (new_info space elem fill layout)
 
 -- A new group in the file: the block of its header, and those of its index.
 abbrev pub group_at : (at n tree heap : ℕ) → List Block → GroupAt
@@ -297,8 +299,8 @@ NewDataHeld = (b : Array) (ks : Ks) (at n : ℕ) (i : DataInfo) (fill : Fill) (p
 
 -- ---- another body of a message
 
--- The parts of a header with another body of one message, whose data stand from a place on.
-pub record IsOtherBody (parts changed : List Part) (place : ℕ) (m : Met) (body : List ℕ) : Type 0 where
+-- The parts of a header with another body of one message.
+pub record IsOtherBody (parts changed : List Part) (m : Met) (body : List ℕ) : Type 0 where
   pub before : List Part
   pub later : List Part
   pub block : Block
@@ -306,7 +308,6 @@ pub record IsOtherBody (parts changed : List Part) (place : ℕ) (m : Met) (body
   pub behind : List Met
   pub old : parts ≡ before ++ record { block = block; messages = ahead ++ m ∷ behind } ∷ later
   pub new : changed ≡ before ++ record { block = block; messages = ahead ++ record m { body = body } ∷ behind } ∷ later
-  pub stands : place ≡ block.start + after 0 ahead + 8
 
 -- the same messages, in the order met, with that body in its place
 pub record AreButOne (m : Met) (body : List ℕ) (old new : List Met) : Type 0 where
@@ -328,11 +329,11 @@ BesideWrite = (b c : Array) (at n : ℕ) (xs : List Block) → SameOutside at n 
 -- Where other bytes of the same length stand in the data of one message, which is no continuation, the header has the
 -- same messages with these data in their place, and the same blocks.
 abbrev pub OtherBody : Type 0
-OtherBody = (b c : Array) (at : ℕ) (prefix : Prefix) (parts changed : List Part) (place : ℕ) (m : Met) (body : List ℕ)
-    → IsHeader b at prefix parts → IsOtherBody parts changed place m body → m.kind ≢ 0x10
+OtherBody = (b c : Array) (at : ℕ) (prefix : Prefix) (parts changed : List Part) (m : Met) (body : List ℕ)
+    → IsHeader b at prefix parts → IsOtherBody parts changed m body → m.kind ≢ 0x10
     → length body ≡ length m.body → AllApart (header_blocks at prefix parts)
-    → AgreeBeside b c place (length body) (header_blocks at prefix parts)
-    → bytes_of c place (length body) ≡ body
+    → AgreeBeside b c m.at (length body) (header_blocks at prefix parts)
+    → bytes_of c m.at (length body) ≡ body
     → IsHeader c at prefix changed × AreButOne m body (messages_of parts) (messages_of changed)
     × (header_blocks at prefix changed ≡ header_blocks at prefix parts)
 

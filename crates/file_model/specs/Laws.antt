@@ -13,7 +13,8 @@ use Rattle.file_model.specs.Limits.{IsWithinLimits}
 use Rattle.h5_base.specs.declared.refusal.Refusal.{Refusal}
 use Rattle.file_model.specs.RefusedTree.{IsFileRefused}
 use Rattle.file_model.specs.Holds.{Full, FullLinks, GroupAt, IsHeld, AreHeld, blocks_of, blocks_in, leaf_blocks}
-use Rattle.file_model.specs.Holds.{target_of, plain, Holds, HoldsFull}
+use Rattle.file_model.specs.Holds.{target_of, plain, Holds, HoldsFull, ks_of, founds}
+use Rattle.file_model.specs.WellKept.{AreWellKept}
 
 -- what a link leads to is one object
 abbrev pub OneObject : Type 0
@@ -39,6 +40,12 @@ one_region end = record { starts = λ c. 0; ends = λ c. end; own = None }
 -- the bytes of an empty file hold the tree of one group without links
 abbrev pub EmptyFile : Type 0
 EmptyFile = Holds (array_of empty_file) (one_region 800) new_group
+
+-- and the index of that group is well kept
+abbrev pub EmptyKept : Type 0
+EmptyKept = (s : Superblock) (g : GroupAt) (ls : FullLinks)
+    (h : HoldsFull (array_of empty_file) (one_region 800) s g ls)
+    → AreWellKept (array_of empty_file) (ks_of s) g.tree_at g.heap_at (founds ls) h.held.0.index h.held.0.links
 
 -- ---- edits
 
@@ -106,3 +113,7 @@ abbrev pub NotRefused : Type 0
 NotRefused = (b : Array) (e : Bounds) (s : Superblock) (g : GroupAt) (ls : FullLinks) (h : HoldsFull b e s g ls)
     (r : Refusal)
     → IsWithinLimits b (all_blocks s h.driver (Group g ls)) (Group g ls) → IsFileRefused b e r → ⊥
+
+-- and a file is refused for one reason
+abbrev pub OneRefusal : Type 0
+OneRefusal = (b : Array) (e : Bounds) (r q : Refusal) → IsFileRefused b e r → IsFileRefused b e q → r ≡ q

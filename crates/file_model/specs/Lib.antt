@@ -1,5 +1,6 @@
 pub mod Headers
 pub mod Objects
+pub mod Index
 pub mod Groups
 pub mod Chunks
 pub mod Holds

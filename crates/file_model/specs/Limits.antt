@@ -28,7 +28,8 @@ most_header = 1048576
 abbrev pub most_segment : ℕ
 most_segment = 16777216
 
--- the names and the soft links' values of a file, in bytes
+-- The names and the soft links' values of a file that are kept, in bytes. A file with more isn't refused: there is no
+-- memory for it.
 abbrev pub most_texts : ℕ
 most_texts = 268435456
 

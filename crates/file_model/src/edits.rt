@@ -7,6 +7,7 @@ ghost use Rattle.file_model.specs.EditLaws.{EndWritten, InsertOne, InsertOrder, 
 ghost use Rattle.file_model.specs.EditLaws.{EditThere, PlainFind, PlainInsert, PlainRemove, PlainWalk, PlainChange};
 ghost use Rattle.file_model.specs.EditLaws.{NewGroup, NewData, NewGroupHeld, NewDataHeld, OtherBody, BesideWrite};
 ghost use Rattle.file_model.specs.EditLaws.{OtherFirst, OtherTable, OtherShape, OtherLayout};
+ghost use Rattle.file_model.specs.WellKept.{OtherSegment, OtherHeap};
 
 /// The names of each group of a tree that is held ascend.
 pub fn held_order()
@@ -103,4 +104,10 @@ pub fn other_object()
     ensures table { OtherTable }
     ensures shape { OtherShape }
     ensures layout { OtherLayout }
+{}
+
+/// A local heap whose segment grows, or is cut behind the bytes in use: the group has the same links in the same nodes.
+pub fn other_segment()
+    ensures segment { OtherSegment }
+    ensures heap { OtherHeap }
 {}

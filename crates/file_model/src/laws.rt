@@ -2,8 +2,9 @@
 
 ghost use Rattle.file_model.specs.Bites.{DisorderInNode, DisorderInGroup, NameBelowKey, NameAboveKey, KeyOutside};
 ghost use Rattle.file_model.specs.Bites.{SharedByte, PastEnd, OwnContinuation, LooseChunk, HugeSpace, PlaceInChunk};
-ghost use Rattle.file_model.specs.Laws.{OneObject, OneFull, OneTree, FrameLaw, EmptyFile, EditLaw, FileFrame};
-ghost use Rattle.file_model.specs.Laws.{InsertLaw, RemoveLaw, ReplaceLaw, PlainEdit, RiseLaw, NotRefused};
+ghost use Rattle.file_model.specs.Laws.{OneObject, OneFull, OneTree, FrameLaw, EmptyFile, EmptyKept, EditLaw};
+ghost use Rattle.file_model.specs.Laws.{FileFrame};
+ghost use Rattle.file_model.specs.Laws.{InsertLaw, RemoveLaw, ReplaceLaw, PlainEdit, RiseLaw, NotRefused, OneRefusal};
 
 /// What a link leads to is one object: of one kind, with one list of links or elements, and one list of blocks.
 pub fn one_object()
@@ -62,7 +63,8 @@ pub fn rises()
 
 /// The bytes of an empty file hold the tree of one group without links.
 pub fn empty_file()
-    ensures { EmptyFile }
+    ensures holds { EmptyFile }
+    ensures kept { EmptyKept }
 {}
 
 /// No line of the refusals says that a file is refused whose tree is held within the limits.
@@ -83,4 +85,9 @@ pub fn bites()
     ensures loose_chunk { LooseChunk }
     ensures huge_space { HugeSpace }
     ensures place_in_chunk { PlaceInChunk }
+{}
+
+/// A file is refused for one reason: the first that the reading meets.
+pub fn one_refusal()
+    ensures { OneRefusal }
 {}
