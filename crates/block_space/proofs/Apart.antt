@@ -13,10 +13,10 @@ contains_head y ys = (0, omega arith, refl)
 pub contains_tail : {X : Type 0} (y : X) (ys : List X) (x : X) → Contains ys x → Contains (y ∷ ys) x
 contains_tail y ys x (k, l, e) = (suc k, omega arith, e)
 
-none_contained : {X : Type 0} (x : X) → Contains [] x → ⊥
+pub none_contained : {X : Type 0} (x : X) → Contains [] x → ⊥
 none_contained x (k, l, e) = omega arith
 
-turned : (x y : Block) → AreApart x y → AreApart y x
+pub turned : (x y : Block) → AreApart x y → AreApart y x
 turned x y (inl a) = inr a
 turned x y (inr a) = inl a
 

@@ -7,7 +7,7 @@ use Rattle.std.specs.List.{Contains}
 use Rattle.std.specs.Ordering.{nat_cmp, is_eq}
 use Rattle.std.specs.Cmp.{nat_cmp_is}
 use Rattle.std.specs.declared.cmp.Ordering.TheVariants.{Less, Greater}
-use Rattle.std.specs.BTreeMap.{BTreeMap, get, Updates, IsUnchanged, btree_map_len}
+use Rattle.std.specs.BTreeMap.{BTreeMap, get, Updates, btree_map_len}
 use Rattle.std.proofs.lemmas.Bool.{cases_lt, cases_eq, eqb-true, eq-eqb}
 use Rattle.std.proofs.lemmas.List.Elements.{Contains-push, Contains-push_cases, Contains-append_left}
 use Rattle.outside.specs.Blocks.{Block, BeginsOne, IsApart}
@@ -18,7 +18,7 @@ some_value : (o : Option ℕ) → IsSome o → (n : ℕ) × (o ≡ Some n)
 some_value None h = absurd cc
 some_value (Some n) h = (n, refl)
 
-other_key : (a b : ℕ) → (a ≡ b → ⊥) → is_eq (nat_cmp a b) ≡ false
+pub other_key : (a b : ℕ) → (a ≡ b → ⊥) → is_eq (nat_cmp a b) ≡ false
 other_key a b differ = elim (cases_lt a b) [
   | inl l ↦ sym (ap is_eq (nat_cmp_is a b Less l))
   | inr le ↦ let l : b < a = omega arith in sym (ap is_eq (nat_cmp_is a b Greater l))
@@ -27,15 +27,6 @@ other_key a b differ = elim (cases_lt a b) [
 no_value : (o : Option ℕ) → (IsSome o → ⊥) → is_some o ≡ false
 no_value None none = refl
 no_value (Some n) none = absurd (none refl)
-
--- the blocks stay where the entries do
-pub lists_same : (m n : BTreeMap ℕ ℕ) (met : List Block) → IsUnchanged m n → Lists m met → Lists n met
-lists_same m n met same lists = record {
-  entries = λ start len. rw same (lists.entries start len);
-  count = rw same lists.count;
-  filled = lists.filled;
-  apart = lists.apart;
-}
 
 module _ (m : BTreeMap ℕ ℕ) (met : List Block) (lists : Lists m met) where
   pub begins_one : (start : ℕ) → IsSome (get nat_cmp m start) → BeginsOne met start

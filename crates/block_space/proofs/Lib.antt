@@ -4,3 +4,15 @@ pub mod Listed
 pub mod SixClasses
 pub mod Joined
 pub mod Stopped
+pub mod Taken
+pub mod Gathered
+pub mod Needed
+pub mod Ends
+pub mod Room
+pub mod Fresh
+pub mod Overlaid
+pub mod Planned
+pub mod Counted
+pub mod Written
+pub mod Taking
+pub mod Readied

@@ -1,9 +1,11 @@
 -- What follows from the outcome of a call on the catalogue: for a block that may be empty, and for the call behind it.
-use Rattle.std.proofs.Common.{◌≡◌, ℕ, ◌+◌, ◌<◌, ◌≤◌, ◌^◌, List, [], ◌∷◌, ◌++◌, Option, Some, None, Result, Ok, Err, IfErr, OnOk, IfSome, arith}
+use Rattle.std.proofs.Common.{◌≡◌, zero, suc, ◌==◌, false, ℕ, ◌+◌, ◌<◌, ◌^◌, List, [], ◌∷◌, ◌++◌, Option, Some, None, Result, Ok, Err}
+use Rattle.std.proofs.Common.{IfOk, IfErr, OnOk, OnErr, IfSome, subst, arith}
+use Rattle.std.proofs.lemmas.Bool.{ne_eqb}
 use Rattle.h5_base.specs.declared.kinds.BlockKind.{BlockKind}
 use Rattle.h5_base.specs.declared.refusal.Stop.{Stop}
 use Rattle.h5_base.specs.Refusals.{refusal_of}
-use Rattle.outside.specs.Blocks.{Block, Bounds, IsInside, IsBlockRefused, IsPlacedRefused}
+use Rattle.outside.specs.Blocks.{Block, Bounds, IsInside, IsBlockRefused, IsPlacedRefused, placed}
 use Rattle.outside.specs.Space.{SpaceView, AreRegions, bounds_of}
 use Rattle.block_space.specs.Blocks.{Keeps}
 use Rattle.block_space.specs.declared.blocks.Blocks.{Blocks}
@@ -19,6 +21,10 @@ if_err (Err e) P Q f h = f e h
 pub on_ok : {T E : Type 0} (r : Result T E) (P : Type 0) → P → OnOk r P
 on_ok (Ok x) P h = h
 on_ok (Err e) P h = tt
+
+pub on_err : {T E : Type 0} (r : Result T E) (P : Type 0) → P → OnErr r P
+on_err (Ok x) P h = tt
+on_err (Err e) P h = h
 
 -- a block that lies inside ends below 2^64
 pub inside_fits : (v : SpaceView) (x : Block) → AreRegions v.regions v.ends → IsInside (bounds_of v None) x → x.start + x.len < 2 ^ 64
@@ -39,8 +45,31 @@ pub then_kept : {V T : Type 0} (view : V → SpaceView) (old mid new : Blocks V)
     → OnOk r ((met : List Block) → Keeps view old met → Keeps view new (met ++ xs))
 then_kept view old mid new xs r first next = on_ok r ((met : List Block) → Keeps view old met → Keeps view new (met ++ xs)) (λ met keeps. next (met ++ xs) (first met keeps))
 
+-- a block that isn't empty has its place
+pub found_placed : {V T : Type 0} (view : V → SpaceView) (old new : Blocks V) (at len : ℕ) (r : Result T Stop) → 0 < len
+    → OnOk r ((met : List Block) → Keeps view old met → Keeps view new (met ++ record { start = at; len = len } ∷ []))
+    → OnOk r ((met : List Block) → Keeps view old met → Keeps view new (met ++ placed at len))
+found_placed view old new at zero r some h = absurd (omega arith)
+found_placed view old new at (suc n) r some h =
+    let e : (suc n == 0) ≡ false = ne_eqb (suc n) 0 (λ z. omega arith) in rw e h
+
 pub all_placed : {V T : Type 0} (view : V → SpaceView) (old : Blocks V) (at len : ℕ) (kind : BlockKind) (r : Result T Stop) → 0 < len
     → IfErr r (λ stop. (met : List Block) (own : Option (List ℕ)) → Keeps view old met → IfSome (refusal_of stop) (IsBlockRefused (bounds_of (view old.space) own) met (record { start = at; len = len }) kind))
     → IfErr r (λ stop. (met : List Block) (own : Option (List ℕ)) → Keeps view old met → IfSome (refusal_of stop) (IsPlacedRefused (bounds_of (view old.space) own) met at len kind))
 all_placed view old at len kind (Ok x) some h = h
 all_placed view old at len kind (Err stop) some h = λ met own keeps. refused_placed (bounds_of (view old.space) own) met at len kind stop some (h met own keeps)
+
+pub on_ok_then : {T E : Type 0} (r : Result T E) (P Q : Type 0) → (P → Q) → OnOk r P → OnOk r Q
+on_ok_then (Ok x) P Q f h = f h
+on_ok_then (Err e) P Q f h = h
+
+pub if_ok : {T E : Type 0} (r : Result T E) (P Q : T → Type 0) → ((x : T) → P x → Q x) → IfOk r P → IfOk r Q
+if_ok (Ok x) P Q f h = f x h
+if_ok (Err e) P Q f h = h
+
+pub on_err_then : {T E : Type 0} (r : Result T E) (P Q : Type 0) → (P → Q) → OnErr r P → OnErr r Q
+on_err_then (Ok x) P Q f h = h
+on_err_then (Err e) P Q f h = f h
+
+pub err_has : {T E : Type 0} (r : Result T E) (e : E) (P : Type 0) → r ≡ Err e → OnErr r P → P
+err_has {T} {E} r e P is h = subst (λ (s : Result T E). OnErr s P) is h

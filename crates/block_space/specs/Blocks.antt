@@ -1,7 +1,7 @@
 -- What a catalogue of the blocks of a file holds, and when it takes a further block.
 -- Cited by `Blocks`, and by whatever reads a file through it.
 use Rattle.std.specs.Prelude.{ℕ, ◌<◌, ◌≤◌, ◌++◌, List, length, Option, IfSome}
-use Rattle.std.specs.BTreeMap.{BTreeMap}
+use Rattle.std.specs.Prelude.{vec_len, vec_capacity, ◌-◌}
 use Rattle.h5_base.specs.declared.refusal.Refusal.{Refusal}
 use Rattle.h5_base.specs.declared.refusal.Stop.{Stop}
 use Rattle.h5_base.specs.Refusals.{refusal_of}
@@ -9,8 +9,8 @@ use Rattle.outside.specs.Array.{Array}
 use Rattle.outside.specs.Blocks.{Block, Bounds, BeginsOne, IsApart, IsInside, AllInside, most_blocks}
 use Rattle.outside.specs.Space.{SpaceView, bounds_of}
 use Rattle.block_space.specs.declared.blocks.Blocks.{Blocks}
-use Rattle.block_space.specs.declared.blocks.Catalogue.{Catalogue}
-use Rattle.block_space.specs.Catalogue.{Lists}
+use Rattle.block_space.specs.declared.catalogue.Catalogue.{Catalogue}
+use Rattle.block_space.specs.Catalogue.{IsListed}
 
 -- the space whose blocks they are
 abbrev pub space_of : {V : Type 0} → Blocks V → V
@@ -18,8 +18,8 @@ space_of blocks = blocks.space
 
 -- A catalogue has just the blocks of the list: each lies below an end of what a space tells, no address lies in two,
 -- and they are no more than a file may have.
-pub record AreListed (v : SpaceView) (entries : BTreeMap ℕ ℕ) (met : List Block) : Type 0 where
-  pub lists : Lists entries met
+pub record AreListed (v : SpaceView) (c : Catalogue) (met : List Block) : Type 0 where
+  pub lists : IsListed c met
   pub few : length met ≤ most_blocks
   pub inside : (own : Option (List ℕ)) → AllInside (bounds_of v own) met
 
@@ -44,7 +44,7 @@ Refuses view old IsRefused stop = (met : List Block) (own : Option (List ℕ)) �
 
 -- a catalogue that was set aside has just these blocks
 abbrev pub IsSetAside : SpaceView → Catalogue → List Block → Type 0
-IsSetAside v kept met = AreListed v kept.entries met
+IsSetAside v kept met = AreListed v kept met
 
 -- a block may be taken into the catalogue
 pub record MayJoin {V : Type 0} (view : V → SpaceView) (blocks : Blocks V) (met : List Block) (x : Block) : Type 0 where
@@ -52,3 +52,7 @@ pub record MayJoin {V : Type 0} (view : V → SpaceView) (blocks : Blocks V) (me
   pub begins : ¬ BeginsOne met x.start
   pub apart : IsApart x met
   pub inside : (own : Option (List ℕ)) → IsInside (bounds_of (view blocks.space) own) x
+
+-- how many more blocks are taken without memory
+abbrev pub spare_of : {V : Type 0} → Blocks V → ℕ
+spare_of blocks = vec_capacity blocks.catalogue.taken - vec_len blocks.catalogue.taken

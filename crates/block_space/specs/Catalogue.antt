@@ -1,10 +1,12 @@
 -- A map from the start of each block to its length: which blocks it holds, and which of them lie next to an address.
 -- Cited by the catalogue of the blocks of a file.
-use Rattle.std.specs.Prelude.{◌≡◌, ◌↔◌, ℕ, ◌+◌, ◌<◌, ◌≤◌, List, length, Option, Some, None, IsSome, MatchOption}
+use Rattle.std.specs.Prelude.{◌≡◌, ◌↔◌, ◌⊎◌, ℕ, ◌+◌, ◌<◌, ◌≤◌, List, map, length, Option, Some, None, IsSome, MatchOption}
 use Rattle.std.specs.List.{Contains}
 use Rattle.std.specs.Ordering.{nat_cmp}
 use Rattle.std.specs.BTreeMap.{BTreeMap, get, btree_map_len}
 use Rattle.outside.specs.Blocks.{Block, AllApart}
+use Rattle.h5_base.specs.declared.extent.Extent.{Extent}
+use Rattle.block_space.specs.declared.catalogue.Catalogue.{Catalogue}
 
 -- the last entry whose key is below an address
 abbrev pub IsLastBelow : BTreeMap ℕ ℕ → ℕ → Option (ℕ × ℕ) → Type 0
@@ -22,6 +24,22 @@ IsFirstFrom m at found = MatchOption found
 pub record Lists (m : BTreeMap ℕ ℕ) (met : List Block) : Type 0 where
   pub entries : (start len : ℕ) → (get nat_cmp m start ≡ Some len) ↔ Contains met (record { start = start; len = len })
   pub count : btree_map_len m ≡ length met
+  pub filled : (x : Block) → Contains met x → 0 < x.len
+  pub apart : AllApart met
+
+-- the blocks of a list of ranges
+abbrev pub blocks_of : List Extent → List Block
+blocks_of = map (λ x. record { start = x.start; len = x.len })
+
+-- The catalogue has just the blocks of the list: those in order, and those that were taken since, of which none begins
+-- where one of the others does.
+pub record IsListed (c : Catalogue) (met : List Block) : Type 0 where
+  pub entries : (start len : ℕ)
+      → ((get nat_cmp c.entries start ≡ Some len) ⊎ Contains (blocks_of c.taken.items) (record { start = start; len = len }))
+      ↔ Contains met (record { start = start; len = len })
+  pub fresh : (x : Block) → Contains (blocks_of c.taken.items) x → get nat_cmp c.entries x.start ≡ None
+  pub own : AllApart (blocks_of c.taken.items)
+  pub count : btree_map_len c.entries + length c.taken.items ≡ length met
   pub filled : (x : Block) → Contains met x → 0 < x.len
   pub apart : AllApart met
 

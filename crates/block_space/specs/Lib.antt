@@ -1,2 +1,4 @@
 pub mod Catalogue
 pub mod Blocks
+pub mod Plans
+pub mod Reserved

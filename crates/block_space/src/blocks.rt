@@ -1,5 +1,5 @@
 ghost use Rattle.std.specs.Prelude.{◌≡◌, ◌+◌, ◌^◌, ◌<◌, ◌≤◌, ◌++◌, ℕ, [], ◌∷◌, List, Option, length, IsTrue, IfErr};
-ghost use Rattle.std.specs.Prelude.{◌↔◌, IfSome, OnOk, OnErr, IsErrOf};
+ghost use Rattle.std.specs.Prelude.{◌↔◌, IfOk, IfSome, OnOk, OnErr, IsErrOf};
 ghost use Rattle.std.specs.List.{Contains};
 ghost use Rattle.h5_base.specs.Refusals.{refusal_of};
 ghost use Rattle.outside.specs.Array.{bytes_of};
@@ -8,28 +8,22 @@ ghost use Rattle.outside.specs.Causes.{OneRose};
 ghost use Rattle.outside.specs.Space.{bounds_of};
 ghost use Rattle.block_space.specs.Blocks.{IsSetAside, Keeps, MayJoin, space_of};
 
+use crate::catalogue::Catalogue;
 use crate::neighbours::shared_address;
 use crate::regions::lies_inside;
-use h5_base::{BlockKind, Refusal, Stop};
+use h5_base::{BlockKind, NoMemory, Refusal, Stop};
 use outside::{Failed, Space};
 use std::alloc::Global;
-use std::collections::BTreeMap;
 use std::mem;
 
 /// So many blocks a file has at most.
-const MOST_BLOCKS: usize = 1_048_576;
+pub(crate) const MOST_BLOCKS: usize = 1_048_576;
 
 /// A space with a catalogue of the blocks that were met in it.
 #[derive(Drop)]
 pub struct Blocks<V: Space> {
-    space: V,
-    catalogue: BTreeMap<u64, u64>,
-}
-
-/// A catalogue that was set aside, while another one is kept.
-#[derive(Drop)]
-pub struct Catalogue {
-    entries: BTreeMap<u64, u64>,
+    pub(crate) space: V,
+    pub(crate) catalogue: Catalogue,
 }
 
 impl<V: Space> Blocks<V> {
@@ -40,13 +34,15 @@ impl<V: Space> Blocks<V> {
     {
         Blocks {
             space,
-            catalogue: BTreeMap::new(alloc),
+            catalogue: Catalogue::new(alloc),
         }
     }
 
-    // The first reason for which a block of at least one byte isn't taken in, want of memory aside.
+    // The first reason for which a block of at least one byte isn't taken in, want of memory aside. The catalogue is in
+    // order.
     fn judge(&self, start: u64, len: u64, kind: BlockKind) -> Result<(), Stop>
-        requires { 0 < len }
+        requires some { 0 < len }
+        requires ordered { self.now.catalogue.taken.items ≡ [] }
         ensures free { OnOk result ((met : List Block) → Keeps V.view self.now met
             → MayJoin V.view self.now met (record { start = start; len = len })) }
         ensures inside { OnOk result ((own : Option (List ℕ))
@@ -57,12 +53,12 @@ impl<V: Space> Blocks<V> {
         ensures no_fault { ¬ IsErrOf result Stop.Failed }
         ensures memory { ¬ IsErrOf result Stop.NoMemory }
     {
-        if self.catalogue.contains_key(&start) {
+        if self.catalogue.entries.contains_key(&start) {
             return Err(Stop::Refused {
                 why: Refusal::LinkedTwice { at: start },
             });
         }
-        if let Some(at) = shared_address(&self.catalogue, start, len) {
+        if let Some(at) = shared_address(&self.catalogue.entries, start, len) {
             return Err(Stop::Refused {
                 why: Refusal::Overlap { at },
             });
@@ -70,7 +66,7 @@ impl<V: Space> Blocks<V> {
         if !lies_inside(&self.space, start, len) {
             return Err(Stop::malformed(start, kind));
         }
-        if self.catalogue.len() >= MOST_BLOCKS {
+        if self.catalogue.entries.len() >= MOST_BLOCKS {
             return Err(Stop::Refused {
                 why: Refusal::TooMany,
             });
@@ -93,26 +89,30 @@ impl<V: Space> Blocks<V> {
             → IfSome (refusal_of stop) (IsBlockRefused (bounds_of (V.view (space_of self.old)) own) met
             (record { start = start; len = len }) kind)) }
         ensures no_fault { ¬ IsErrOf result Stop.Failed }
-        ensures memory { IsErrOf result Stop.NoMemory → (met : List Block) → Keeps V.view self.old met
-            → MayJoin V.view self.old met (record { start = start; len = len }) }
         ensures space { space_of self.new ≡ space_of self.old }
     {
+        if self.catalogue.gather().is_err() {
+            return Err(Stop::NoMemory);
+        }
         self.judge(start, len, kind)?;
-        match self.catalogue.insert(start, len) {
+        match self.catalogue.entries.insert(start, len) {
             Ok(_) => Ok(()),
             Err(_) => Err(Stop::NoMemory),
         }
     }
 
-    /// Whether a block of this length that begins there is in the catalogue.
-    pub fn holds(&self, start: u64, len: u64) -> bool
-        ensures { (met : List Block) → Keeps V.view self.now met
-            → IsTrue result ↔ Contains met (record { start = start; len = len }) }
+    /// Whether a block of this length that begins there is in the catalogue, which is brought in order first.
+    pub fn holds(&mut self, start: u64, len: u64) -> Result<bool, NoMemory>
+        ensures has { IfOk result (λ has. (met : List Block) → Keeps V.view self.old met
+            → IsTrue has ↔ Contains met (record { start = start; len = len })) }
+        ensures kept { (met : List Block) → Keeps V.view self.old met → Keeps V.view self.new met }
+        ensures space { space_of self.new ≡ space_of self.old }
     {
-        match self.catalogue.get(&start) {
+        self.catalogue.gather()?;
+        Ok(match self.catalogue.entries.get(&start) {
             Some(kept) => *kept == len,
             None => false,
-        }
+        })
     }
 
     /// Gives the bytes from `at` on, 0 where nothing is.
@@ -124,6 +124,7 @@ impl<V: Space> Blocks<V> {
         ensures kept { (met : List Block) → Keeps V.view self.old met → Keeps V.view self.new met }
         ensures alike { V.Alike (space_of self.old) (space_of self.new) }
         ensures failed { OnErr result (OneRose (V.faults (space_of self.old)) (V.faults (space_of self.new))) }
+        ensures calm { OnOk result (V.faults (space_of self.new) ≡ V.faults (space_of self.old)) }
     {
         self.space.read(at, out)
     }
@@ -136,9 +137,7 @@ impl<V: Space> Blocks<V> {
             → IsSetAside (V.view (space_of self.old)) result met }
         ensures space { space_of self.new ≡ space_of self.old }
     {
-        Catalogue {
-            entries: mem::replace(&mut self.catalogue, BTreeMap::new(alloc)),
-        }
+        mem::replace(&mut self.catalogue, Catalogue::new(alloc))
     }
 
     /// Keeps a catalogue again that was set aside, in place of the one that was kept meanwhile.
@@ -147,8 +146,7 @@ impl<V: Space> Blocks<V> {
             → Keeps V.view self.new met }
         ensures space { space_of self.new ≡ space_of self.old }
     {
-        let Catalogue { entries } = kept;
-        self.catalogue = entries;
+        self.catalogue = kept;
     }
 
     /// The space.

@@ -44,6 +44,8 @@ impl<V: Space> Blocks<V> {
         ensures alike { V.Alike (space_of self.old) (space_of self.new) }
         ensures failed { IsErrOf result Stop.Failed
             → OneRose (V.faults (space_of self.old)) (V.faults (space_of self.new)) }
+        ensures calm { ¬ IsErrOf result Stop.Failed
+            → V.faults (space_of self.new) ≡ V.faults (space_of self.old) }
     {
         let mut bytes = vec![in alloc; 0; len]?;
         match self.read(at, &mut bytes) {
@@ -76,6 +78,8 @@ impl<V: Space> Blocks<V> {
         ensures alike { V.Alike (space_of self.old) (space_of self.new) }
         ensures failed { IsErrOf result Stop.Failed
             → OneRose (V.faults (space_of self.old)) (V.faults (space_of self.new)) }
+        ensures calm { ¬ IsErrOf result Stop.Failed
+            → V.faults (space_of self.new) ≡ V.faults (space_of self.old) }
     {
         match self.adopt(at, len as u64, kind) {
             Ok(()) => self.read_bytes(alloc, at, len),

@@ -2,12 +2,21 @@
 //! block into it and reads it through it, or the file is refused.
 #![tactic(auto)]
 
+mod applying;
 mod blocks;
+mod catalogue;
 mod getting;
 mod neighbours;
+mod plan;
 mod regions;
+mod reserving;
+mod writing;
 
-pub use blocks::{Blocks, Catalogue};
+pub use applying::planned_stays;
+pub use blocks::Blocks;
+pub use catalogue::Catalogue;
+pub use plan::{EditPlan, Needs, PlanStop, ReserveStop, Take};
+pub use reserving::reserved_covers;
 
 /// What `Blocks::adopt` answers of a block that isn't taken in: a refusal, or want of memory.
 pub type AdoptStop = h5_base::Stop;

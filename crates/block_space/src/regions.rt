@@ -6,7 +6,7 @@ use h5_base::MemClass;
 use outside::Space;
 
 /// The classes of memory. Regions of several classes are often equal.
-const CLASSES: [MemClass; 6] = [
+pub(crate) const CLASSES: [MemClass; 6] = [
     MemClass::Super,
     MemClass::Tree,
     MemClass::Raw,
@@ -17,7 +17,7 @@ const CLASSES: [MemClass; 6] = [
 
 /// Whether `len` bytes from `start` on lie in the region of a class, below its end.
 fn lies_in<V: Space>(space: &V, class: MemClass, start: u64, len: u64) -> bool
-    ensures { IsTrue result ↔ LiesIn (V.view space.now) class start len }
+    ensures { IsTrue result ↔ LiesIn (V.view space.now).regions (V.view space.now).ends class start len }
 {
     let end = space.end(class);
     space.region(class).start <= start && start <= end && len <= end - start

@@ -50,7 +50,8 @@ fn write<V: Space>(
     requires stands { V.Stands space.old }
     requires writable { IsTrue (V.view space.old).writable }
     requires plain { (V.view space.old).committed ≡ None }
-    requires inside { LiesIn (V.view space.old) class at (length bytes.now) }
+    requires inside { LiesIn (V.view space.old).regions (V.view space.old).ends class at
+        (length bytes.now) }
     requires fits { at + length bytes.now < 2 ^ 64 }
     ensures stands { OnOk result (V.Stands space.new) }
     ensures ends { OnOk result ((V.view space.new).ends ≡ (V.view space.old).ends) }

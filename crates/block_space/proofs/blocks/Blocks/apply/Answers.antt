@@ -1,0 +1,50 @@
+use Rattle.std.proofs.Common.{◌≡◌, ℕ, ◌++◌, ◌∙◌, length, drop, ap}
+use Rattle.std.proofs.lemmas.List.Elements.{Contains-append_left}
+use Rattle.outside.specs.Array.{Array}
+use Rattle.block_space.specs.Plans.{LiesBeside, LiesBesideWrites, taken_blocks}
+use Rattle.block_space.proofs.Planned.{takes_stay}
+use Rattle.block_space.proofs.Stopped.{on_err_then, on_ok}
+use Rattle.block_space.proofs.blocks.Blocks.apply.Goals as goal
+
+pub write_all-requires-clause-block : goal.write_all-requires-clause-block
+write_all-requires-clause-block g c =
+    let v = g.V.Space.view c.args.self.now.space in
+    let r = c.requires.reserved in
+    let taken = taken_blocks v.regions v.ends c.args.plan.now.takes in (
+      r.0 ++ taken,
+      c.in_ok-take_all.ensures.found r.0 r.1,
+      λ w has.
+          let lies = r.2.within w has in (lies.0, Contains-append_left r.0 taken lies.0 lies.1, lies.2, lies.3),
+    )
+
+pub write_all-requires-clause-ready : goal.write_all-requires-clause-ready
+write_all-requires-clause-ready g c = λ w has.
+    let v = g.V.Space.view c.args.self.now.space in
+    let r = c.requires.reserved in
+    record {
+      writable = rw (g.met.V.Space.edited_kind _ _ c.take_all.ensures.edited).writable r.3.writable;
+      covered = λ a low high. rw c.in_ok-take_all.ensures.prepared (r.3.covered.writes w has a low high);
+      room = c.in_ok-take_all.ensures.room;
+    }
+
+pub returns-clause-found : goal.returns-clause-found
+returns-clause-found g c = on_ok c.write_all.result _
+    (λ met keeps fits. c.write_all.ensures.kept _ (c.in_ok-take_all.ensures.found met keeps))
+
+pub returns-clause-in_part : goal.returns-clause-in_part
+returns-clause-in_part g c = λ told.
+    let v = g.V.Space.view c.args.self.now.space in
+    let mid = g.V.Space.view c.take_all.new.self.space in
+    let new = g.V.Space.view c.write_all.new.self.space in
+    let plan = c.args.plan.now in
+    on_err_then c.write_all.result ((a : ℕ) → LiesBesideWrites plan.writes a → new.array a ≡ mid.array a)
+    ((a : ℕ) → LiesBeside v.regions v.ends plan a → new.array a ≡ v.array a)
+    (λ same a beside. same a beside.writes ∙ ap (λ (b : Array). b a) (c.in_ok-take_all.ensures.array told)
+    ∙ takes_stay v.regions v.ends plan.takes (drop (length plan.writes) plan.images) v.array a
+    c.requires.reserved.2.filled beside.takes)
+    (c.write_all.ensures.in_part told)
+
+pub returns-clause-edited : goal.returns-clause-edited
+returns-clause-edited g c =
+    g.met.V.Space.edited_further _ _ _ c.in_ok-take_all.ensures.steady c.take_all.ensures.edited
+    c.write_all.ensures.edited
