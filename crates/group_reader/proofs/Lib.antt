@@ -6,4 +6,6 @@ pub mod LeafLemmas
 pub mod NameLemmas
 pub mod NodeLemmas
 pub mod TableLemmas
+pub mod TextLemmas
 pub mod Told
+pub mod ValueLemmas

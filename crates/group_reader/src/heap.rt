@@ -34,6 +34,8 @@ pub(crate) fn read_head<V: Space>(
     ensures alike { V.Alike (space_of blocks.old) (space_of blocks.new) }
     ensures failed { IsErrOf result Stop.Failed
         → OneRose (V.faults (space_of blocks.old)) (V.faults (space_of blocks.new)) }
+    ensures calm { ¬ IsErrOf result Stop.Failed
+        → V.faults (space_of blocks.new) ≡ V.faults (space_of blocks.old) }
 {
     let bytes = blocks.adopt_bytes(alloc, heap_at, 32, BlockKind::Heap)?;
     let Some(head) = read_heap(&bytes) else {
@@ -61,6 +63,8 @@ pub(crate) fn read_segment<V: Space>(
     ensures alike { V.Alike (space_of blocks.old) (space_of blocks.new) }
     ensures failed { IsErrOf result Stop.Failed
         → OneRose (V.faults (space_of blocks.old)) (V.faults (space_of blocks.new)) }
+    ensures calm { ¬ IsErrOf result Stop.Failed
+        → V.faults (space_of blocks.new) ≡ V.faults (space_of blocks.old) }
 {
     blocks.adopt_placed(head.segment_at, head.len, BlockKind::Heap)?;
     if head.len == 0 {

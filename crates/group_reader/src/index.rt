@@ -1,10 +1,10 @@
-ghost use Rattle.std.specs.Prelude.{◌≡◌, ◌+◌, [], IsTrue, IfErr, OnOk, IsErrOf, length};
+ghost use Rattle.std.specs.Prelude.{◌≡◌, ◌+◌, [], suc, IsTrue, IfErr, OnOk, IsErrOf, length};
 ghost use Rattle.outside.specs.Causes.{OneRose};
 ghost use Rattle.block_space.specs.Blocks.{Takes, Refuses, array_of, space_of};
-ghost use Rattle.file_model.specs.Groups.{AreChildren, IsIndex};
+ghost use Rattle.file_model.specs.Groups.{StandsAt};
 ghost use Rattle.file_model.specs.RefusedGroups.{AreChildrenRefused, IsIndexRefused};
 ghost use Rattle.group_reader.specs.Links.{Adds};
-ghost use Rattle.group_reader.specs.Reading.{IsBelow, IsBelowRefused};
+ghost use Rattle.group_reader.specs.Reading.{AreChildren};
 
 use crate::gathered::Gathered;
 use crate::keys::{check_keys, parts_at};
@@ -29,14 +29,17 @@ fn read_index<V: Space>(
 ) -> Result<(), Stop>
     requires stands { V.Stands (space_of blocks.old) }
     ensures adds { OnOk result (Adds gathered.old gathered.new (λ fs. Takes V.view blocks.old blocks.new (λ bs.
-        IsTrue V.tells → IsIndex (array_of V.view blocks.old) table.now.ks table.now.segment.now level at fs bs))) }
+        IsTrue V.tells → StandsAt (array_of V.view blocks.old) table.now.ks table.now.segment.now (suc level) at
+        fs bs))) }
     ensures refused { IsTrue V.tells → IfErr result (Refuses V.view blocks.old (λ e met. IsIndexRefused
-        (array_of V.view blocks.old) e table.now.ks table.now.segment.now table.now.heap_at level met at)) }
+        (array_of V.view blocks.old) e table.now.ks table.now.segment.now table.now.heap_at (suc level) met at)) }
     ensures alike { V.Alike (space_of blocks.old) (space_of blocks.new) }
     ensures failed { IsErrOf result Stop.Failed
         → OneRose (V.faults (space_of blocks.old)) (V.faults (space_of blocks.new)) }
+    ensures calm { ¬ IsErrOf result Stop.Failed
+        → V.faults (space_of blocks.new) ≡ V.faults (space_of blocks.old) }
 {
-    let node = read_node(alloc, blocks, table.ks.internal, at)?;
+    let node = read_node(alloc, blocks, table.ks, at)?;
     if node.level != level {
         return Err(Stop::malformed(at, BlockKind::Tree));
     }
@@ -55,12 +58,15 @@ fn read_child<V: Space>(
 ) -> Result<(), Stop>
     requires stands { V.Stands (space_of blocks.old) }
     ensures adds { OnOk result (Adds gathered.old gathered.new (λ fs. Takes V.view blocks.old blocks.new (λ bs.
-        IsTrue V.tells → IsBelow (array_of V.view blocks.old) table.now.ks table.now.segment.now level at fs bs))) }
-    ensures refused { IsTrue V.tells → IfErr result (Refuses V.view blocks.old (λ e met. IsBelowRefused
+        IsTrue V.tells → StandsAt (array_of V.view blocks.old) table.now.ks table.now.segment.now level at
+        fs bs))) }
+    ensures refused { IsTrue V.tells → IfErr result (Refuses V.view blocks.old (λ e met. IsIndexRefused
         (array_of V.view blocks.old) e table.now.ks table.now.segment.now table.now.heap_at level met at)) }
     ensures alike { V.Alike (space_of blocks.old) (space_of blocks.new) }
     ensures failed { IsErrOf result Stop.Failed
         → OneRose (V.faults (space_of blocks.old)) (V.faults (space_of blocks.new)) }
+    ensures calm { ¬ IsErrOf result Stop.Failed
+        → V.faults (space_of blocks.new) ≡ V.faults (space_of blocks.old) }
 {
     if level == 0 {
         read_leaf(alloc, blocks, table, at, gathered)
@@ -83,17 +89,19 @@ pub(crate) fn read_children<V: Space>(
     requires one_more { length node.now.keys ≡ length node.now.children + 1 }
     ensures adds { OnOk result (Adds gathered.old gathered.new (λ fs. Takes V.view blocks.old blocks.new (λ bs.
         IsTrue V.tells → AreChildren table.now.segment.now
-        (IsBelow (array_of V.view blocks.old) table.now.ks table.now.segment.now node.now.level)
+        (StandsAt (array_of V.view blocks.old) table.now.ks table.now.segment.now node.now.level)
         node.now.keys node.now.children fs bs))) }
-    ensures refused { IsTrue V.tells → IfErr result (Refuses V.view blocks.old (λ e met. AreChildrenRefused
+    ensures refused { IsTrue V.tells → IfErr result (Refuses V.view blocks.old (λ e met. AreChildrenRefused e
         table.now.segment.now table.now.heap_at node_at
-        (IsBelow (array_of V.view blocks.old) table.now.ks table.now.segment.now node.now.level)
-        (IsBelowRefused (array_of V.view blocks.old) e table.now.ks table.now.segment.now table.now.heap_at
+        (StandsAt (array_of V.view blocks.old) table.now.ks table.now.segment.now node.now.level)
+        (IsIndexRefused (array_of V.view blocks.old) e table.now.ks table.now.segment.now table.now.heap_at
         node.now.level)
         node.now.keys node.now.children [] met)) }
     ensures alike { V.Alike (space_of blocks.old) (space_of blocks.new) }
     ensures failed { IsErrOf result Stop.Failed
         → OneRose (V.faults (space_of blocks.old)) (V.faults (space_of blocks.new)) }
+    ensures calm { ¬ IsErrOf result Stop.Failed
+        → V.faults (space_of blocks.new) ≡ V.faults (space_of blocks.old) }
 {
     let (keys, children) = (node.keys.as_slice(), node.children.as_slice());
     let begin = gathered.links.len();

@@ -1,14 +1,12 @@
 ghost use Rattle.std.specs.Prelude.{◌≡◌, ◌≤◌, ◌-◌, IfErr, IfSome, OnOk, IsErrOf, length, take, drop};
 ghost use Rattle.object_model.specs.Tree.{AreOrdered};
-ghost use Rattle.file_model.specs.RefusedGroups.{names_of, IsKeyRefused};
+ghost use Rattle.file_model.specs.RefusedGroups.{names_of, FitKeys, IsKeyRefused};
 ghost use Rattle.h5_base.specs.Refusals.{refusal_of};
 ghost use Rattle.group_reader.specs.Links.{links_of};
-ghost use Rattle.group_reader.specs.Reading.{FitKeys};
 
 use crate::link::FoundLink;
 use crate::names::{ascend, lie_between};
 use crate::table::Table;
-use crate::text::text_at;
 use h5_base::{BlockKind, Stop};
 
 /// The links from `begin` on, in two parts: those before `middle`, and those from there on.
@@ -43,13 +41,11 @@ pub(crate) fn check_keys(
         (links_of here.now))) }
     ensures no_fault { ¬ IsErrOf result Stop.Failed }
 {
-    let (Some(low), Some(high)) = (
-        text_at(table.segment, low_at),
-        text_at(table.segment, high_at),
-    ) else {
+    let end = table.texts_end as u64;
+    if low_at >= end || high_at >= end {
         return Err(Stop::malformed(table.heap_at, BlockKind::Heap));
-    };
-    if lie_between(low, high, here) && ascend(done, here) {
+    }
+    if lie_between(table.segment, low_at, high_at, here) && ascend(done, here) {
         Ok(())
     } else {
         Err(Stop::malformed(node_at, BlockKind::Tree))

@@ -1,7 +1,7 @@
 ghost use Rattle.std.specs.Prelude.{◌≡◌, IsTrue, IfErr, OnOk, IsErrOf};
 ghost use Rattle.outside.specs.Causes.{OneRose};
 ghost use Rattle.block_space.specs.Blocks.{Takes, Refuses, array_of, space_of};
-ghost use Rattle.file_model.specs.Groups.{IsLeaf};
+ghost use Rattle.file_model.specs.Groups.{StandsAt};
 ghost use Rattle.file_model.specs.RefusedGroups.{IsLeafRefused};
 ghost use Rattle.group_reader.specs.Links.{Adds};
 
@@ -24,12 +24,14 @@ pub(crate) fn read_leaf<V: Space>(
 ) -> Result<(), Stop>
     requires stands { V.Stands (space_of blocks.old) }
     ensures adds { OnOk result (Adds gathered.old gathered.new (λ fs. Takes V.view blocks.old blocks.new (λ bs.
-        IsTrue V.tells → IsLeaf (array_of V.view blocks.old) table.now.ks table.now.segment.now at fs bs))) }
+        IsTrue V.tells → StandsAt (array_of V.view blocks.old) table.now.ks table.now.segment.now 0 at fs bs))) }
     ensures refused { IsTrue V.tells → IfErr result (Refuses V.view blocks.old (λ e met. IsLeafRefused
         (array_of V.view blocks.old) e table.now.ks table.now.segment.now table.now.heap_at met at)) }
     ensures alike { V.Alike (space_of blocks.old) (space_of blocks.new) }
     ensures failed { IsErrOf result Stop.Failed
         → OneRose (V.faults (space_of blocks.old)) (V.faults (space_of blocks.new)) }
+    ensures calm { ¬ IsErrOf result Stop.Failed
+        → V.faults (space_of blocks.new) ≡ V.faults (space_of blocks.old) }
 {
     let k = table.ks.leaf;
     let bytes = blocks.adopt_bytes(alloc, at, snod_size(k), BlockKind::Snod)?;

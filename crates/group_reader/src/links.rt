@@ -1,9 +1,9 @@
-ghost use Rattle.std.specs.Prelude.{◌≡◌, ◌+◌, ℕ, List, IsTrue, IfOk, IfErr, OnOk, OnErr, IsErrOf};
+ghost use Rattle.std.specs.Prelude.{◌≡◌, ◌+◌, ℕ, suc, List, IsTrue, IfOk, IfErr, OnOk, OnErr, IsErrOf};
 ghost use Rattle.outside.specs.Blocks.{Block};
 ghost use Rattle.outside.specs.Causes.{OneRose};
 ghost use Rattle.object_model.specs.Tree.{AreOrdered};
 ghost use Rattle.block_space.specs.Blocks.{Keeps, Takes, Refuses, array_of, space_of};
-ghost use Rattle.file_model.specs.Groups.{HasLinks, IsIndex};
+ghost use Rattle.file_model.specs.Groups.{HasLinks, StandsAt};
 ghost use Rattle.file_model.specs.Limits.{IsSmallHeap, text_bytes};
 ghost use Rattle.file_model.specs.RefusedGroups.{names_of, root_level, IsIndexRefused, IsTableRefused};
 ghost use Rattle.group_reader.specs.Links.{links_of, Adds};
@@ -15,6 +15,7 @@ use crate::index::read_children;
 use crate::link::FoundLink;
 use crate::node::read_node;
 use crate::table::Table;
+use crate::text::texts_end;
 use block_space::Blocks;
 use h5_base::Stop;
 use outside::Space;
@@ -31,16 +32,18 @@ fn read_tree<V: Space>(
 ) -> Result<(), Stop>
     requires stands { V.Stands (space_of blocks.old) }
     ensures adds { OnOk result (Adds gathered.old gathered.new (λ fs. Takes V.view blocks.old blocks.new (λ bs.
-        IsTrue V.tells → IsIndex (array_of V.view blocks.old) table.now.ks table.now.segment.now
-        (root_level (array_of V.view blocks.old) table.now.ks tree_at) tree_at fs bs))) }
+        IsTrue V.tells → StandsAt (array_of V.view blocks.old) table.now.ks table.now.segment.now
+        (suc (root_level (array_of V.view blocks.old) table.now.ks tree_at)) tree_at fs bs))) }
     ensures refused { IsTrue V.tells → IfErr result (Refuses V.view blocks.old (λ e met. IsIndexRefused
         (array_of V.view blocks.old) e table.now.ks table.now.segment.now table.now.heap_at
-        (root_level (array_of V.view blocks.old) table.now.ks tree_at) met tree_at)) }
+        (suc (root_level (array_of V.view blocks.old) table.now.ks tree_at)) met tree_at)) }
     ensures alike { V.Alike (space_of blocks.old) (space_of blocks.new) }
     ensures failed { IsErrOf result Stop.Failed
         → OneRose (V.faults (space_of blocks.old)) (V.faults (space_of blocks.new)) }
+    ensures calm { ¬ IsErrOf result Stop.Failed
+        → V.faults (space_of blocks.new) ≡ V.faults (space_of blocks.old) }
 {
-    let root = read_node(alloc, blocks, table.ks.internal, tree_at)?;
+    let root = read_node(alloc, blocks, table.ks, tree_at)?;
     read_children(alloc, blocks, table, tree_at, &root, gathered)
 }
 
@@ -77,6 +80,8 @@ pub fn read_links<V: Space>(
     ensures listed { OnOk result ((met : List Block) × Keeps V.view blocks.new met) }
     ensures failed { IsErrOf result Stop.Failed
         → OneRose (V.faults (space_of blocks.old)) (V.faults (space_of blocks.new)) }
+    ensures calm { ¬ IsErrOf result Stop.Failed
+        → V.faults (space_of blocks.new) ≡ V.faults (space_of blocks.old) }
 {
     let head = read_head(alloc, blocks, heap_at)?;
     let segment = read_segment(alloc, blocks, head)?;
@@ -84,6 +89,7 @@ pub fn read_links<V: Space>(
         ks,
         heap_at,
         segment: &segment,
+        texts_end: texts_end(&segment),
     };
     let mut gathered = Gathered {
         links: Vec::new(alloc),

@@ -1,10 +1,11 @@
-ghost use Rattle.std.specs.Prelude.{◌≡◌, ◌++◌, ◌↔◌, IsTrue};
-ghost use Rattle.object_model.specs.Tree.{name_lt, AreOrdered};
-ghost use Rattle.file_model.specs.Groups.{AreBetween};
+ghost use Rattle.std.specs.Prelude.{◌≡◌, ◌≤◌, ◌++◌, ◌↔◌, IsTrue, length};
+ghost use Rattle.object_model.specs.Tree.{Name, name_lt, AreOrdered};
+ghost use Rattle.file_model.specs.Groups.{HasText, AreBetween};
 ghost use Rattle.file_model.specs.RefusedGroups.{names_of};
 ghost use Rattle.group_reader.specs.Links.{links_of};
 
 use crate::link::FoundLink;
+use crate::text::text_before;
 
 /// Whether the one name comes before the other, by unsigned bytes.
 pub(crate) fn comes_before(a: &[u8], b: &[u8]) -> bool
@@ -13,14 +14,18 @@ pub(crate) fn comes_before(a: &[u8], b: &[u8]) -> bool
     a.cmp(&b).is_lt()
 }
 
-/// Whether the names, which ascend, lie above `low`, and at most at `high`.
-pub(crate) fn lie_between(low: &[u8], high: &[u8], links: &[FoundLink]) -> bool
-    ensures { AreOrdered (names_of (links_of links.now))
-        → IsTrue result ↔ AreBetween low.now high.now (links_of links.now) }
+/// Whether the names, which ascend, lie above the text at the one offset, and at most at the text at the other.
+pub(crate) fn lie_between(segment: &[u8], low_at: u64, high_at: u64, links: &[FoundLink]) -> bool
+    requires low { low_at ≤ length segment.now }
+    requires high { high_at ≤ length segment.now }
+    ensures { (low high : Name) → HasText segment.now low_at low → HasText segment.now high_at high
+        → AreOrdered (names_of (links_of links.now))
+        → IsTrue result ↔ AreBetween low high (links_of links.now) }
 {
     match (links.first(), links.last()) {
         (Some(first), Some(last)) => {
-            comes_before(low, first.name.as_slice()) && !comes_before(high, last.name.as_slice())
+            text_before(segment, low_at, first.name.as_slice())
+                && !text_before(segment, high_at, last.name.as_slice())
         }
         _ => true,
     }

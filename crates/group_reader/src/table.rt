@@ -1,3 +1,5 @@
+ghost use Rattle.group_reader.specs.Texts.{EndTexts};
+
 use super_codec::KValues;
 
 /// The table of a group while it is read: the K values of its file, and its local heap.
@@ -8,4 +10,7 @@ pub(crate) struct Table<'a> {
     pub(crate) heap_at: u64,
     /// The heap's data segment.
     pub(crate) segment: &'a [u8],
+    /// The offset behind the last NUL of the segment.
+    pub(crate) texts_end: usize,
+    ghost ends: { EndTexts segment.now texts_end },
 }

@@ -3,7 +3,7 @@ use Rattle.std.proofs.Common.{◌≡◌, ◌⊎◌, ℕ, ◌+◌, ◌^◌, ◌<�
 use Rattle.std.proofs.lemmas.Bool.{cases_lt, cases_eq}
 use Rattle.std.proofs.lemmas.List.FromFn.{length-map-range_with_len, take-map-range_with_len}
 use Rattle.outside.specs.Array.{Array, bytes_of}
-use Rattle.outside.specs.Blocks.{Block, AllInside}
+use Rattle.outside.specs.Blocks.{Block, AllInside, AreTaken}
 use Rattle.outside.specs.Space.{SpaceView, AreRegions, bounds_of}
 use Rattle.block_space.specs.Blocks.{Keeps, Takes}
 use Rattle.block_space.specs.declared.blocks.Blocks.{Blocks}
@@ -32,11 +32,11 @@ use Rattle.header_reader.proofs.High.{refused_less}
 
 pub large_first : (v : SpaceView) (own : Option (List ℕ)) (met : List Block) (at : ℕ) (prefix : Prefix) → HasPrefix v.array at prefix → most_header < 16 + prefix.size
     → IsHeaderRefused v.array (bounds_of v own) met at (Unsupported what.Header)
-large_first v own met at prefix h large = LargeFirst prefix h.spelled large refl
+large_first v own met at prefix h large = LargeFirst prefix h.fits h.spelled large refl
 
 pub header_block : (v : SpaceView) (own : Option (List ℕ)) (met : List Block) (at : ℕ) (prefix : Prefix) (r : Refusal) → HasPrefix v.array at prefix → 16 + prefix.size ≤ most_header
     → IsBlockRefused (bounds_of v own) met (record { start = at; len = 16 + prefix.size }) kind.Header r → IsHeaderRefused v.array (bounds_of v own) met at r
-header_block v own met at prefix r h small refused = HeaderBlock prefix h.spelled small refused
+header_block v own met at prefix r h small refused = HeaderBlock prefix h.fits h.spelled small refused
 
 pub in_messages : (v w : SpaceView) (own : Option (List ℕ)) (met : List Block) (at : ℕ) (prefix : Prefix) (r : Refusal) → v ≡ w → HasPrefix v.array at prefix → 16 + prefix.size ≤ most_header
     → IsMessageRefused w.array (bounds_of w own) met at prefix r → IsHeaderRefused v.array (bounds_of v own) met at r
@@ -52,7 +52,9 @@ pub known_found : {V : Type 0} (view : V → SpaceView) (old mid new : Blocks V)
 known_found view old mid new at prefix messages x parts same h met_all kept made = λ met keeps.
     let b = (view old.space).array in
     let g = subst (λ (v : SpaceView). IsGathered v.array at prefix messages parts) (sym same) met_all in
-    (header_blocks at prefix parts, made b prefix parts (record { spelled = h.spelled; unread = g.unread; met = g.met }) g.gathered g.whole g.short, kept met keeps)
+    let header : IsHeader b at prefix parts =
+    record { spelled = h.spelled; unread = g.unread; met = g.met; counted = g.counted } in
+    (header_blocks at prefix parts, made b prefix parts header g.gathered g.whole g.short, kept met keeps)
 
 -- want of memory refuses no file
 pub memory_only : (stop : Stop) (IsRefused : Refusal → Type 0) → stop ≡ stops.NoMemory → IfSome (refusal_of stop) IsRefused
@@ -91,9 +93,11 @@ pub record AreFirst (b : Array) (at n : ℕ) (items : List ℕ) : Type 0 where
   pub whole : at + 16 ≤ 2 ^ 64 → n ≡ 16
   pub most : n ≤ 16
   pub four : at + 4 ≤ 2 ^ 64 → 4 ≤ n
+  pub fits : at + n ≤ 2 ^ 64
 
-pub first_seen : (b : Array) (at n : ℕ) (items seen : List ℕ) → seen ≡ items → items ≡ bytes_of b at n → (at + 16 ≤ 2 ^ 64 → n ≡ 16) → n ≤ 16 → (at + 4 ≤ 2 ^ 64 → 4 ≤ n) → AreFirst b at n seen
-first_seen b at n items seen same is whole most four = record { bytes = same ∙ is; whole = whole; most = most; four = four }
+pub first_seen : (b : Array) (at n : ℕ) (items seen : List ℕ) → seen ≡ items → items ≡ bytes_of b at n → (at + 16 ≤ 2 ^ 64 → n ≡ 16) → n ≤ 16 → (at + 4 ≤ 2 ^ 64 → 4 ≤ n) → at + n ≤ 2 ^ 64
+    → AreFirst b at n seen
+first_seen b at n items seen same is whole most four fits = record { bytes = same ∙ is; whole = whole; most = most; four = four; fits = fits }
 
 first_four : (b : Array) (at n : ℕ) (items : List ℕ) → AreFirst b at n items → 4 ≤ n → take 4 items ≡ bytes_of b at 4
 first_four b at n items h some = ap (take 4) h.bytes ∙ take-map-range_with_len b at n 4 some
@@ -113,7 +117,7 @@ later_found v at is = (is, refl)
 pub prefix_read : (b : Array) (at n : ℕ) (items : List ℕ) (prefix : Prefix) → AreFirst b at n items → SpellsPrefix prefix items → HasPrefix b at prefix
 prefix_read b at n items prefix h spelled =
     let all : n ≡ 16 = omega (arith, h.most, spelled.prefix.whole, ap length h.bytes, length-map-range_with_len b at n) in
-    record { spelled = subst (SpellsPrefix prefix) (h.bytes ∙ ap (bytes_of b at) all) spelled }
+    record { fits = let room = h.fits in omega (arith, all, room); spelled = subst (SpellsPrefix prefix) (h.bytes ∙ ap (bytes_of b at) all) spelled }
 
 decide : (xs ys : List ℕ) → (xs ≡ ys) ⊎ (xs ≡ ys → ⊥)
 decide [] [] = inl refl
@@ -132,10 +136,14 @@ unspelled b at n items first none fits p spelled = none p (subst (SpellsPrefix p
 -- where no prefix is spelled
 pub prefix_refused : (v : SpaceView) (own : Option (List ℕ)) (met : List Block) (at n : ℕ) (items : List ℕ) (r : Refusal) → AreRegions v.regions v.ends → AllInside (bounds_of v own) met → AreFirst v.array at n items
     → ((4 ≤ length items) × (take 4 items ≡ later_header) → ⊥) → ((p : Prefix) → SpellsPrefix p items → ⊥)
-    → IsBlockRefused (bounds_of v own) met (record { start = at; len = 16 }) kind.Header r ⊎ ((at + 16 < 2 ^ 64) × (r ≡ Malformed at kind.Header)) → IsHeaderRefused v.array (bounds_of v own) met at r
+    → IsBlockRefused (bounds_of v own) met (record { start = at; len = 16 }) kind.Header r
+    ⊎ (AreTaken (bounds_of v own) met (record { start = at; len = 16 } ∷ []) × (at + 16 < 2 ^ 64)
+    × (r ≡ Malformed at kind.Header))
+    → IsHeaderRefused v.array (bounds_of v own) met at r
 prefix_refused v own met at n items r sound all first later none (inr why) =
-    let fits : at + 16 ≤ 2 ^ 64 = let low = why.0 in omega (arith, low) in
-    NoPrefix (not_later v.array at n items first later (omega (arith, first.whole fits))) (unspelled v.array at n items first none fits) why.1
+    let fits : at + 16 ≤ 2 ^ 64 = let low = why.1 in omega (arith, low) in
+    NoPrefix (not_later v.array at n items first later (omega (arith, first.whole fits)))
+    (unspelled v.array at n items first none fits) why.0 why.2
 prefix_refused v own met at n items r sound all first later none (inl h) = go (cases_lt (2 ^ 64) (at + 4))
   where
     high : 2 ^ 64 < at + 4 → (bytes_of v.array at 4 ≡ later_header) ⊎ (bytes_of v.array at 4 ≡ later_header → ⊥) → IsHeaderRefused v.array (bounds_of v own) met at r

@@ -1,6 +1,8 @@
 -- The first messages of a list with one message more.
-use Rattle.std.proofs.Common.{◌≡◌, ◌≢◌, ℕ, ◌==◌, Bool, true, false, List, [], ◌∷◌, ◌++◌, Option, Some, None, if◌then◌else◌, refl, sym, ap, subst, ne_eqb, ◌∙◌}
+use Rattle.std.proofs.Common.{◌≡◌, ◌≢◌, ℕ, ◌==◌, Bool, true, false, List, [], ◌∷◌, ◌++◌, Option, Some, None, Result}
+use Rattle.std.proofs.Common.{OnOk, if◌then◌else◌, refl, sym, ap, subst, ne_eqb, ◌∙◌}
 use Rattle.std.specs.Prelude.{is_some}
+use Rattle.std.proofs.lemmas.Result.{on_ok_weaker}
 use Rattle.file_model.specs.Headers.{Met}
 use Rattle.file_model.specs.Objects.{first_of, has}
 use Rattle.header_reader.specs.Firsts.{Firsts}
@@ -61,11 +63,23 @@ gathers-more f g ms m e h =
 
 -- ---- each type that counts
 
-abbrev pub met : ℕ → ℕ → List ℕ → Met
-met kind flags body = record { kind = kind; flags = flags; body = body }
+abbrev pub met : ℕ → ℕ → ℕ → List ℕ → Met
+met kind flags at body = record { kind = kind; flags = flags; at = at; body = body }
 
-pub met_as : (v f g : Firsts) (ms : List Met) (kind n flags : ℕ) (body : List ℕ) → v ≡ f → kind ≡ n → g ≡ with_met v (met n flags body) → Gathers f ms → Gathers g (ms ++ met kind flags body ∷ [])
-met_as v f g ms kind n flags body see k e h = gathers-more v g ms (met kind flags body) (e ∙ ap (λ x. with_met v (met x flags body)) (sym k)) (subst (λ (x : Firsts). Gathers x ms) (sym see) h)
+pub met_as : (v f g : Firsts) (ms : List Met) (kind n flags at : ℕ) (body : List ℕ) → v ≡ f → kind ≡ n
+    → g ≡ with_met v (met n flags at body) → Gathers f ms → Gathers g (ms ++ met kind flags at body ∷ [])
+met_as v f g ms kind n flags at body see k e h =
+    gathers-more v g ms (met kind flags at body) (e ∙ ap (λ x. with_met v (met x flags at body)) (sym k))
+    (subst (λ (x : Firsts). Gathers x ms) (sym see) h)
+
+-- a type whose first message is kept at its place
+pub kept_as : {T E : Type 0} (r : Result T E) (v f : Firsts) (put : Option Met → Firsts) (new old : ℕ → Option Met)
+    (kind n flags at : ℕ) (body : List ℕ) → v ≡ f → kind ≡ n
+    → put (or_first (old n) (met n flags at body)) ≡ with_met v (met n flags at body)
+    → OnOk r ((k : ℕ) → new k ≡ or_first (old k) (met k flags at body))
+    → OnOk r ((ms : List Met) → Gathers f ms → Gathers (put (new n)) (ms ++ met kind flags at body ∷ []))
+kept_as r v f put new old kind n flags at body see k e =
+    on_ok_weaker r (λ kept ms h. met_as v f (put (new n)) ms kind n flags at body see k (ap put (kept n) ∙ e) h)
 
 -- a type that counts for none of them
 pub record IsOther (kind : ℕ) : Type 0 where
@@ -78,23 +92,25 @@ pub record IsOther (kind : ℕ) : Type 0 where
   pub files : kind ≢ 0x7
   pub filters : kind ≢ 0xB
 
-not_placed : (kind k flags : ℕ) (body : List ℕ) (o : Option Met) → kind ≢ k → o ≡ placed k o (met kind flags body)
-not_placed kind k flags body o ne = let e : (kind == k) ≡ false = ne_eqb kind k ne in rw e refl
+not_placed : (m : Met) (k : ℕ) (o : Option Met) → m.kind ≢ k → o ≡ placed k o m
+not_placed m k o ne = let e : (m.kind == k) ≡ false = ne_eqb m.kind k ne in rw e refl
 
-not_noted : (kind k flags : ℕ) (body : List ℕ) (b : Bool) → kind ≢ k → b ≡ noted k b (met kind flags body)
-not_noted kind k flags body b ne = let e : (kind == k) ≡ false = ne_eqb kind k ne in rw e refl
+not_noted : (m : Met) (k : ℕ) (b : Bool) → m.kind ≢ k → b ≡ noted k b m
+not_noted m k b ne = let e : (m.kind == k) ≡ false = ne_eqb m.kind k ne in rw e refl
 
-pub met_other : (f : Firsts) (ms : List Met) (kind flags : ℕ) (body : List ℕ) → IsOther kind → Gathers f ms → Gathers f (ms ++ met kind flags body ∷ [])
-met_other f ms kind flags body other h =
-    gathers-more f f ms (met kind flags body)
+pub met_other : (f : Firsts) (ms : List Met) (kind flags at : ℕ) (body : List ℕ) → IsOther kind → Gathers f ms
+    → Gathers f (ms ++ met kind flags at body ∷ [])
+met_other f ms kind flags at body other h =
+    let m = met kind flags at body in
+    gathers-more f f ms m
     (λ i. record {
-      space = not_placed kind 0x1 flags body f.space other.space i;
-      elem = not_placed kind 0x3 flags body f.elem other.elem i;
-      fill = not_placed kind 0x5 flags body f.fill other.fill i;
-      layout = not_placed kind 0x8 flags body f.layout other.layout i;
-      table = not_placed kind 0x11 flags body f.table other.table i;
-      old_fill = not_noted kind 0x4 flags body f.old_fill other.old_fill i;
-      files = not_noted kind 0x7 flags body f.files other.files i;
-      filters = not_noted kind 0xB flags body f.filters other.filters i;
+      space = not_placed m 0x1 f.space other.space i;
+      elem = not_placed m 0x3 f.elem other.elem i;
+      fill = not_placed m 0x5 f.fill other.fill i;
+      layout = not_placed m 0x8 f.layout other.layout i;
+      table = not_placed m 0x11 f.table other.table i;
+      old_fill = not_noted m 0x4 f.old_fill other.old_fill i;
+      files = not_noted m 0x7 f.files other.files i;
+      filters = not_noted m 0xB f.filters other.filters i;
     })
     h

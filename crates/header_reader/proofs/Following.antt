@@ -7,7 +7,7 @@ use Rattle.std.proofs.lemmas.List.Sums.{sum_by-append}
 use Rattle.std.proofs.lemmas.Grind.{flat_map-append}
 use Rattle.h5_base.specs.Fields.{u64_at}
 use Rattle.h5_base.specs.declared.extent.Extent.{Extent}
-use Rattle.outside.specs.Blocks.{Block, Bounds, placed}
+use Rattle.outside.specs.Blocks.{Block, Bounds, AreTaken, placed}
 use Rattle.outside.specs.Space.{SpaceView, bounds_of}
 use Rattle.block_space.specs.Blocks.{Keeps}
 use Rattle.block_space.specs.declared.blocks.Blocks.{Blocks}
@@ -51,32 +51,48 @@ all_named view old total start len kind (Err stop) is h =
     λ met own keeps. if_some (refusal_of stop) (IsNameRefused (bounds_of (view old.space) own) met total start len) (λ x. (kind ≡ 0x10) × IsNameRefused (bounds_of (view old.space) own) met total start len x) (λ x y. (is, y)) (h met own keeps)
 
 -- a message that is read is met
-pub message_met : (bytes : List ℕ) (place : ℕ) (message : Message) (body : List ℕ) → SpellsMessage message bytes place
-    → body ≡ take (message.at + message.len - message.at) (drop message.at bytes) → ((message.kind ≡ 0x10) ⊎ (message.kind ≡ 0x11) → 16 ≤ message.len)
-    → IsMessageAt bytes place (record { kind = message.kind; flags = message.flags; body = body })
-message_met bytes place message body h is whole =
-    let at : message.at ≡ place + 8 = ap (λ (x : Message). x.at) h.value in
-    let behind : message.at + message.len ≤ length bytes = omega (arith, ap (λ (x : Message). x.len) h.value, at, h.message.whole) in
+pub message_met : (start : ℕ) (bytes : List ℕ) (place : ℕ) (message : Message) (at : ℕ) (body : List ℕ)
+    → SpellsMessage message bytes place → at ≡ start + message.at
+    → body ≡ take (message.at + message.len - message.at) (drop message.at bytes)
+    → ((message.kind ≡ 0x10) ⊎ (message.kind ≡ 0x11) → 16 ≤ message.len)
+    → IsMessageAt start bytes place (record { kind = message.kind; flags = message.flags; at = at; body = body })
+message_met start bytes place message at body h there is whole =
+    let behind_head : message.at ≡ place + 8 = ap (λ (x : Message). x.at) h.value in
+    let behind : message.at + message.len ≤ length bytes =
+    omega (arith, ap (λ (x : Message). x.len) h.value, behind_head, h.message.whole) in
     let some : message.at + message.len - message.at ≡ message.len = omega arith in
     let fits : message.len ≤ length (drop message.at bytes) = omega (arith, behind, length-drop message.at bytes) in
     let body_is : body ≡ take message.len (drop message.at bytes) = is ∙ ap (λ (n : ℕ). take n (drop message.at bytes)) some in
     let len : message.len ≡ length body = sym (ap length body_is ∙ length-take-le message.len (drop message.at bytes) fits) in
     record {
       stand = (
-        record { message = h.message; value = (λ j. record { kind = message.kind; flags = message.flags; at = (sym at) j; len = (sym len) j }) ∙ h.value },
-        body_is ∙ (λ j. take (len j) (drop (at j) bytes)),
+        record {
+          message = h.message;
+          value = (λ j. record {
+            kind = message.kind;
+            flags = message.flags;
+            at = (sym behind_head) j;
+            len = (sym len) j;
+          })
+              ∙ h.value;
+        },
+        omega (arith, there, behind_head),
+        body_is ∙ (λ j. take (len j) (drop (behind_head j) bytes)),
         tt,
       );
       whole = λ k. omega (arith, whole k, len);
     }
 
 -- where the message ends
-pub message_end : (bytes : List ℕ) (place : ℕ) (message : Message) (m : Met) → SpellsMessage message bytes place → IsMessageAt bytes place m → message.at + message.len ≡ place + 8 + length m.body
-message_end bytes place message m h here =
+pub message_end : (start : ℕ) (bytes : List ℕ) (place : ℕ) (message : Message) (m : Met)
+    → SpellsMessage message bytes place → IsMessageAt start bytes place m → message.at + message.len ≡ place + 8 + length m.body
+message_end start bytes place message m h here =
     omega (arith, ap (λ (x : Message). x.at) h.value, ap (λ (x : Message). x.len) h.value, ap (λ (x : Message). x.len) here.stand.0.value)
 
-pub step_refused : (e : Bounds) (met : List Block) (total start : ℕ) (bytes : List ℕ) (place : ℕ) (m : Met) (r : Refusal) → IsMessageAt bytes place m
-    → (m.kind ≡ 0x10) × IsNameRefused e met total (u64_at m.body 0) (u64_at m.body 8) r → IsStepRefused e met total start bytes place r
+pub step_refused : (e : Bounds) (met : List Block) (total start : ℕ) (bytes : List ℕ) (place : ℕ) (m : Met)
+    (r : Refusal) → IsMessageAt start bytes place m
+    → (m.kind ≡ 0x10) × IsNameRefused e met total (u64_at m.body 0) (u64_at m.body 8) r
+    → IsStepRefused e met total start bytes place r
 step_refused e met total start bytes place m r here (is, TooLarge large line) = LargeHeader m here (omega (arith, large, named_bytes m is)) line
 step_refused e met total start bytes place m r here (is, BadBlock small h) = BadContinuation m here is (omega (arith, small, named_bytes m is)) h
 
@@ -94,13 +110,20 @@ meets_one old mid new m same gathers waiting wanted total short =
 
 -- ---- messages one behind the other
 
-pub stand_more : (bytes : List ℕ) (at : ℕ) (ms ns : List Met) → Stand bytes at ms → Stand bytes (after at ms) ns → Stand bytes at (ms ++ ns)
-stand_more bytes at [] ns h k = k
-stand_more bytes at (m ∷ ms) ns h k = (h.0, h.1, stand_more bytes (at + 8 + length m.body) ms ns h.2 k)
+stand_more : (start : ℕ) (bytes : List ℕ) (at : ℕ) (ms ns : List Met) → Stand start bytes at ms
+    → Stand start bytes (after at ms) ns → Stand start bytes at (ms ++ ns)
+stand_more start bytes at [] ns h k = k
+stand_more start bytes at (m ∷ ms) ns h k =
+    (h.0, h.1, h.2, stand_more start bytes (at + 8 + length m.body) ms ns h.3 k)
 
-pub stand_back : (bytes : List ℕ) (at : ℕ) (ms ns : List Met) → Stand bytes at (ms ++ ns) → Stand bytes (after at ms) ns
-stand_back bytes at [] ns h = h
-stand_back bytes at (m ∷ ms) ns h = stand_back bytes (at + 8 + length m.body) ms ns h.2
+pub stand_back : (start : ℕ) (bytes : List ℕ) (at : ℕ) (ms ns : List Met) → Stand start bytes at (ms ++ ns)
+    → Stand start bytes (after at ms) ns
+stand_back start bytes at [] ns h = h
+stand_back start bytes at (m ∷ ms) ns h = stand_back start bytes (at + 8 + length m.body) ms ns h.3
+
+pub whole_back : (ms ns : List Met) → AreWhole (ms ++ ns) → AreWhole ns
+whole_back [] ns h = h
+whole_back (m ∷ ms) ns h = whole_back ms ns h.1
 
 pub whole_more : (ms ns : List Met) → AreWhole ms → AreWhole ns → AreWhole (ms ++ ns)
 whole_more [] ns h k = k
@@ -139,18 +162,24 @@ kept_more view old mid new ms m h k met keeps = subst (Keeps view new) (flat_map
 pub kept_none : {V : Type 0} (view : V → SpaceView) (old : Blocks V) (met : List Block) → Keeps view old met → Keeps view old (met ++ [])
 kept_none view old met keeps = subst (Keeps view old) (sym (append-nil met)) keeps
 
-pub stand_next : (bytes : List ℕ) (place : ℕ) (ms : List Met) (m : Met) → Stand bytes 0 ms → place ≡ after 0 ms → IsMessageAt bytes place m → Stand bytes 0 (ms ++ m ∷ [])
-stand_next bytes place ms m h is here = stand_more bytes 0 ms (m ∷ []) h (subst (λ (n : ℕ). Stand bytes n (m ∷ [])) is here.stand)
+pub stand_next : (start : ℕ) (bytes : List ℕ) (place : ℕ) (ms : List Met) (m : Met) → Stand start bytes 0 ms
+    → place ≡ after 0 ms → IsMessageAt start bytes place m → Stand start bytes 0 (ms ++ m ∷ [])
+stand_next start bytes place ms m h is here =
+    stand_more start bytes 0 ms (m ∷ []) h (subst (λ (n : ℕ). Stand start bytes n (m ∷ [])) is here.stand)
 
-pub whole_next : (bytes : List ℕ) (place : ℕ) (ms : List Met) (m : Met) → AreWhole ms → IsMessageAt bytes place m → AreWhole (ms ++ m ∷ [])
-whole_next bytes place ms m h here = whole_more ms (m ∷ []) h (here.whole, tt)
+pub whole_next : (start : ℕ) (bytes : List ℕ) (place : ℕ) (ms : List Met) (m : Met) → AreWhole ms
+    → IsMessageAt start bytes place m → AreWhole (ms ++ m ∷ [])
+whole_next start bytes place ms m h here = whole_more ms (m ∷ []) h (here.whole, tt)
 
 pub after_next : (place next : ℕ) (ms : List Met) (m : Met) → place ≡ after 0 ms → next ≡ place + 8 + length m.body → next ≡ after 0 (ms ++ m ∷ [])
 after_next place next ms m is end = omega (arith, is, end, after_more 0 ms (m ∷ []))
 
-pub block_stop : (e f : Bounds) (met : List Block) (old mid : Walk) (start : ℕ) (bytes : List ℕ) (place : ℕ) (ms : List Met) (r : Refusal) → f ≡ e → Stand bytes 0 ms → AreWhole ms → place ≡ after 0 ms
-    → Meets old mid ms → 0 < mid.wanted → place + 8 ≤ length bytes → IsStepRefused f (met ++ flat_map continued ms) mid.total start bytes place r → IsBlockStop e met old.total start bytes old.wanted r
-block_stop e f met old mid start bytes place ms r same stand whole here meets more room step =
+pub block_stop : (e f : Bounds) (met : List Block) (old mid : Walk) (start : ℕ) (bytes : List ℕ) (place : ℕ)
+    (ms : List Met) (r : Refusal) → f ≡ e → Stand start bytes 0 ms → AreWhole ms → place ≡ after 0 ms
+    → Meets old mid ms → 0 < mid.wanted → place + 8 ≤ length bytes → AreTaken e met (flat_map continued ms)
+    → IsStepRefused f (met ++ flat_map continued ms) mid.total start bytes place r
+    → IsBlockStop e met old.total start bytes old.wanted r
+block_stop e f met old mid start bytes place ms r same stand whole here meets more room taken step =
     let blocks = met ++ flat_map continued ms in
     record {
       ms = ms;
@@ -158,6 +187,9 @@ block_stop e f met old mid start bytes place ms r same stand whole here meets mo
       whole = whole;
       more = omega (arith, meets.wanted, more);
       room = omega (arith, here, room);
+      taken = taken;
+      short = omega (arith, meets.total, meets.short);
       step = subst (λ (n : ℕ). IsStepRefused e blocks (old.total + met_bytes (flat_map continued ms)) start bytes n r) here
-          (subst (λ (t : ℕ). IsStepRefused e blocks t start bytes place r) meets.total (subst (λ (x : Bounds). IsStepRefused x blocks mid.total start bytes place r) same step));
+          (subst (λ (t : ℕ). IsStepRefused e blocks t start bytes place r) meets.total
+          (subst (λ (x : Bounds). IsStepRefused x blocks mid.total start bytes place r) same step));
     }

@@ -2,7 +2,7 @@
 use Rattle.file_model.proofs.NoFault.{apart_less}
 use Rattle.std.proofs.Common.{ℕ, ◌+◌, ◌^◌, ◌<◌, ◌≤◌, List, [], ◌∷◌, Option, subst, arith, inl, inr}
 use Rattle.std.specs.List.{Contains}
-use Rattle.outside.specs.Blocks.{Block, Bounds, AreApart, IsApart, IsInside, AllInside, IsOverlap, IsBlockRefused, Again, Shares, Outside, OneMore}
+use Rattle.outside.specs.Blocks.{Block, Bounds, IsInside, AllInside, IsOverlap, IsBlockRefused, Again, Shares, Outside, OneMore}
 use Rattle.outside.specs.Space.{SpaceView, AreRegions, bounds_of}
 use Rattle.h5_base.specs.declared.kinds.BlockKind.{BlockKind}
 use Rattle.h5_base.specs.declared.refusal.Refusal.{Refusal}

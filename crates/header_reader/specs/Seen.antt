@@ -9,7 +9,7 @@ use Rattle.header_reader.specs.declared.messages.Messages.TheInside.{Inside}
 -- the message of this type that is kept
 abbrev pub met_of : ℕ → Option Kept → Option Met
 met_of kind None = None
-met_of kind (Some k) = Some (record { kind = kind; flags = k.flags; body = k.body })
+met_of kind (Some k) = Some (record { kind = kind; flags = k.flags; at = k.at; body = k.body })
 
 abbrev pub firsts_of : Inside → Firsts
 firsts_of a = record {

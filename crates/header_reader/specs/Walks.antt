@@ -1,6 +1,6 @@
 -- How the messages of an object's header are met one after another, block by block, and why one of them is refused.
 -- Cited by the functions that meet them.
-use Rattle.std.specs.Prelude.{◌≡◌, ℕ, ◌+◌, ◌<◌, ◌≤◌, Bool, IsTrue, List, [], ◌∷◌, ◌++◌, length, map}
+use Rattle.std.specs.Prelude.{◌≡◌, ℕ, ◌+◌, ◌^◌, ◌<◌, ◌≤◌, ◌⊎◌, Bool, IsTrue, List, [], ◌∷◌, ◌++◌, length, map, All}
 use Rattle.std.specs.List.{flat_map}
 use Rattle.h5_base.specs.Fields.{u64_at}
 use Rattle.h5_base.specs.declared.extent.Extent.{Extent}
@@ -10,12 +10,12 @@ use Rattle.header_codec.specs.Headers.{SpellsPrefix}
 use Rattle.header_codec.specs.declared.types.Prefix.{Prefix}
 use Rattle.outside.specs.Array.{Array, bytes_of}
 use Rattle.outside.specs.Blocks.{Block, Bounds}
-use Rattle.file_model.specs.Headers.{Met, Stand, after, IsWhole, AreWhole, continued, Part, IsRead, AreMet, first_block}
-use Rattle.file_model.specs.Headers.{messages_of}
+use Rattle.file_model.specs.Headers.{Met, Stand, after, IsWhole, AreWhole, continued, Part, IsAtEnd, AreMet, AreCounted}
+use Rattle.file_model.specs.Headers.{first_block, messages_of}
 use Rattle.file_model.specs.Limits.{header_bytes, most_header}
 use Rattle.h5_base.specs.declared.refusal.Refusal.{Refusal}
 use Rattle.h5_base.specs.declared.refusal.Refusal.TheVariants.{Malformed, Unsupported}
-use Rattle.outside.specs.Blocks.{IsPlacedRefused}
+use Rattle.outside.specs.Blocks.{AreTaken, IsPlacedRefused}
 use Rattle.file_model.specs.Refusals.{met_bytes}
 use Rattle.header_reader.specs.Firsts.{Firsts}
 use Rattle.header_reader.specs.Gathered.{Gathers}
@@ -36,17 +36,21 @@ pub record Meets (old new : Walk) (ms : List Met) : Type 0 where
   pub total : new.total ≡ old.total + met_bytes (flat_map continued ms)
   pub short : new.total ≤ most_header
 
--- This message stands there, and has its two numbers where its type wants them.
-pub record IsMessageAt (bytes : List ℕ) (place : ℕ) (m : Met) : Type 0 where
-  pub stand : Stand bytes place (m ∷ [])
+-- the block that a message of this type and with these data names
+abbrev pub named_by : (kind : ℕ) → List ℕ → List Block
+named_by kind body = continued (record { kind = kind; flags = 0; at = 0; body = body })
+
+-- This message stands there, in a block that begins at an address, and has its two numbers where its type wants them.
+pub record IsMessageAt (start : ℕ) (bytes : List ℕ) (place : ℕ) (m : Met) : Type 0 where
+  pub stand : Stand start bytes place (m ∷ [])
   pub whole : IsWhole m
 
--- The messages of a block: as many as fit or are wanted.
-pub record AreMessages (bytes : List ℕ) (wanted : ℕ) (ms : List Met) : Type 0 where
-  pub stand : Stand bytes 0 ms
+-- The messages of a block that begins at an address: as many as fit or are wanted.
+pub record AreMessages (start : ℕ) (bytes : List ℕ) (wanted : ℕ) (ms : List Met) : Type 0 where
+  pub stand : Stand start bytes 0 ms
   pub whole : AreWhole ms
   pub few : length ms ≤ wanted
-  pub read : IsRead bytes wanted ms
+  pub read : (length bytes < after 0 ms + 8) ⊎ (length ms ≡ wanted)
 
 -- The block that a continuation names is refused, where blocks of so many bytes were met.
 pub data IsNameRefused (e : Bounds) (met : List Block) (total start len : ℕ) (r : Refusal) : Type 0 where
@@ -57,31 +61,38 @@ pub data IsNameRefused (e : Bounds) (met : List Block) (total start len : ℕ) (
 -- The message at a place of a block is refused, or the block that it names, where blocks of so many bytes were met.
 pub data IsStepRefused (e : Bounds) (met : List Block) (total start : ℕ) (bytes : List ℕ) (place : ℕ)
     (r : Refusal) : Type 0 where
-  BadMessage : ((m : Met) → IsMessageAt bytes place m → ⊥) → r ≡ Malformed (start + place) kind.Message
+  BadMessage : ((m : Met) → IsMessageAt start bytes place m → ⊥) → r ≡ Malformed (start + place) kind.Message
       → IsStepRefused e met total start bytes place r
-  LargeHeader : (m : Met) → IsMessageAt bytes place m → most_header < total + met_bytes (continued m)
+  LargeHeader : (m : Met) → IsMessageAt start bytes place m → most_header < total + met_bytes (continued m)
       → r ≡ Unsupported what.Header
       → IsStepRefused e met total start bytes place r
-  BadContinuation : (m : Met) → IsMessageAt bytes place m → m.kind ≡ 0x10
+  BadContinuation : (m : Met) → IsMessageAt start bytes place m → m.kind ≡ 0x10
       → total + met_bytes (continued m) ≤ most_header
       → IsPlacedRefused e met (u64_at m.body 0) (u64_at m.body 8) kind.Header r
       → IsStepRefused e met total start bytes place r
 
--- One of the wanted messages of a block is refused, behind others that were met.
+-- One of the wanted messages of a block is refused, behind others that were met, whose blocks were taken within the
+-- limit.
 pub record IsBlockStop (e : Bounds) (met : List Block) (total start : ℕ) (bytes : List ℕ) (wanted : ℕ)
     (r : Refusal) : Type 0 where
   pub ms : List Met
-  pub stand : Stand bytes 0 ms
+  pub stand : Stand start bytes 0 ms
   pub whole : AreWhole ms
   pub more : length ms < wanted
   pub room : after 0 ms + 8 ≤ length bytes
+  pub taken : AreTaken e met (flat_map continued ms)
+  pub short : total + met_bytes (flat_map continued ms) ≤ most_header
   pub step : IsStepRefused e (met ++ flat_map continued ms) (total + met_bytes (flat_map continued ms)) start bytes
       (after 0 ms) r
 
--- These parts of a header were met; where the bytes are told, they are those of the array.
+-- These parts of a header were met, each to its end while more messages are wanted, and as many as its prefix counts
+-- where none is; where the bytes are told, they are those of the array.
 pub record IsWalked (tells : Bool) (b : Array) (at : ℕ) (prefix : Prefix) (parts : List Part)
     (walk : Walk) : Type 0 where
-  pub met : IsTrue tells → AreMet b (first_block at prefix ∷ []) prefix.messages parts (waiting_of walk) walk.wanted
+  pub met : IsTrue tells → AreMet b (first_block at prefix) parts (waiting_of walk)
+  pub ended : IsTrue tells → 0 < walk.wanted → All (IsAtEnd b) parts
+  pub counted : IsTrue tells → walk.wanted ≡ 0 → AreCounted b prefix.messages parts
+  pub number : length (messages_of parts) + walk.wanted ≡ prefix.messages
   pub gathered : Gathers walk.messages (messages_of parts)
   pub whole : AreWhole (messages_of parts)
   pub total : walk.total ≡ header_bytes at prefix parts
@@ -89,12 +100,14 @@ pub record IsWalked (tells : Bool) (b : Array) (at : ℕ) (prefix : Prefix) (par
 
 -- The bytes at an address begin with this prefix.
 pub record HasPrefix (b : Array) (at : ℕ) (prefix : Prefix) : Type 0 where
+  pub fits : at + 16 ≤ 2 ^ 64
   pub spelled : SpellsPrefix prefix (bytes_of b at 16)
 
 -- All messages of a header were met, and these are the first of them.
 pub record IsGathered (b : Array) (at : ℕ) (prefix : Prefix) (messages : Firsts) (parts : List Part) : Type 0 where
   pub unread : List Block
-  pub met : AreMet b (first_block at prefix ∷ []) prefix.messages parts unread 0
+  pub met : AreMet b (first_block at prefix) parts unread
+  pub counted : AreCounted b prefix.messages parts
   pub gathered : Gathers messages (messages_of parts)
   pub whole : AreWhole (messages_of parts)
   pub short : header_bytes at prefix parts ≤ most_header

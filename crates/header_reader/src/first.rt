@@ -1,5 +1,5 @@
-ghost use Rattle.std.specs.Prelude.{◌≡◌, ◌≢◌, ◌+◌, ◌^◌, ◌<◌, ◌≤◌, ◌↔◌, ◌⊎◌, IsTrue, length, take};
-ghost use Rattle.outside.specs.Blocks.{IsBlockRefused};
+ghost use Rattle.std.specs.Prelude.{◌≡◌, ◌≢◌, ◌+◌, ◌^◌, ◌<◌, ◌≤◌, ◌↔◌, ◌⊎◌, ◌∷◌, [], IsTrue, length, take};
+ghost use Rattle.outside.specs.Blocks.{IsBlockRefused, AreTaken};
 ghost use Rattle.block_space.specs.Blocks.{Refuses, space_of};
 ghost use Rattle.file_model.specs.Headers.{later_header};
 ghost use Rattle.h5_base.specs.declared.refusal.Refusal.TheVariants.{Malformed};
@@ -37,7 +37,8 @@ pub(crate) fn no_prefix<V: Space>(blocks: &mut Blocks<V>, at: u64) -> Stop
     requires stands { V.Stands (space_of blocks.old) }
     ensures refused { Refuses V.view blocks.old (λ e met r.
         IsBlockRefused e met (record { start = at; len = 16 }) block_kind.Header r
-        ⊎ ((at + 16 < 2 ^ 64) × (r ≡ Malformed at block_kind.Header))) result }
+        ⊎ (AreTaken e met (record { start = at; len = 16 } ∷ []) × (at + 16 < 2 ^ 64)
+        × (r ≡ Malformed at block_kind.Header))) result }
     ensures no_fault { result ≢ Stop.Failed }
     ensures space { space_of blocks.new ≡ space_of blocks.old }
 {

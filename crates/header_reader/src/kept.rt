@@ -15,10 +15,11 @@ use h5_base::{Bytes, NoMemory};
 use header_codec::{Fill, Layout, read_fill, read_layout};
 use std::alloc::Global;
 
-/// The first message of its type: its flags and its data.
+/// The first message of its type: its flags, its data, and the address at which these stand.
 #[derive(Debug, Drop)]
 pub(crate) struct Kept {
     pub(crate) flags: u8,
+    pub(crate) at: u64,
     pub(crate) body: Bytes,
 }
 
@@ -36,15 +37,17 @@ pub(crate) fn keep(
     alloc: Global,
     place: &mut Option<Kept>,
     flags: u8,
+    at: u64,
     body: &[u8],
 ) -> Result<(), NoMemory>
     ensures kept { OnOk result ((kind : ℕ) → met_of kind place.new ≡ or_first (met_of kind place.old)
-        (record { kind = kind; flags = flags; body = body.now })) }
+        (record { kind = kind; flags = flags; at = at; body = body.now })) }
     ensures same { OnErr result (place.new ≡ place.old) }
 {
     if place.is_none() {
         *place = Some(Kept {
             flags,
+            at,
             body: Bytes::from_slice(alloc, body)?,
         });
     }

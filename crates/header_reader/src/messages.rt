@@ -73,21 +73,28 @@ impl Messages {
         }
     }
 
-    /// Takes in the next message of the header: its type, its flags and its data. The data are copied where they may
-    /// count, and then only of the first message of their type.
-    pub fn meet(&mut self, alloc: Global, kind: u16, flags: u8, body: &[u8]) -> Result<(), NoMemory>
+    /// Takes in the next message of the header: its type, its flags, the address of its data, and these. The data are
+    /// copied where they may count, and then only of the first message of their type.
+    pub fn meet(
+        &mut self,
+        alloc: Global,
+        kind: u16,
+        flags: u8,
+        at: u64,
+        body: &[u8],
+    ) -> Result<(), NoMemory>
         // It is one message more.
         ensures ok { OnOk result ((ms : List Met) → Gathers self.old ms
-            → Gathers self.new (ms ++ record { kind = kind; flags = flags; body = body.now } ∷ [])) }
+            → Gathers self.new (ms ++ record { kind = kind; flags = flags; at = at; body = body.now } ∷ [])) }
         // Without memory the message isn't met.
         ensures same { OnErr result ((ms : List Met) → Gathers self.old ms → Gathers self.new ms) }
     {
         match kind {
-            DATASPACE => keep(alloc, &mut self.space, flags, body),
-            DATATYPE => keep(alloc, &mut self.elem, flags, body),
-            FILL_VALUE => keep(alloc, &mut self.fill, flags, body),
-            LAYOUT => keep(alloc, &mut self.layout, flags, body),
-            SYMBOL_TABLE => keep(alloc, &mut self.table, flags, body),
+            DATASPACE => keep(alloc, &mut self.space, flags, at, body),
+            DATATYPE => keep(alloc, &mut self.elem, flags, at, body),
+            FILL_VALUE => keep(alloc, &mut self.fill, flags, at, body),
+            LAYOUT => keep(alloc, &mut self.layout, flags, at, body),
+            SYMBOL_TABLE => keep(alloc, &mut self.table, flags, at, body),
             OLD_FILL_VALUE => {
                 self.old_fill = true;
                 Ok(())

@@ -54,6 +54,8 @@ fn gather<V: Space>(
     ensures alike { V.Alike (space_of blocks.old) (space_of blocks.new) }
     ensures failed { IsErrOf result Stop.Failed
         → OneRose (V.faults (space_of blocks.old)) (V.faults (space_of blocks.new)) }
+    ensures calm { ¬ IsErrOf result Stop.Failed
+        → V.faults (space_of blocks.new) ≡ V.faults (space_of blocks.old) }
 {
     let mut walk = Walk::begin(alloc, at, prefix)?;
     'parts: while walk.wanted > 0 {
@@ -99,6 +101,8 @@ fn read_known<V: Space>(
     ensures listed { OnOk result ((met : List Block) × Keeps V.view blocks.new met) }
     ensures failed { IsErrOf result Stop.Failed
         → OneRose (V.faults (space_of blocks.old)) (V.faults (space_of blocks.new)) }
+    ensures calm { ¬ IsErrOf result Stop.Failed
+        → V.faults (space_of blocks.new) ≡ V.faults (space_of blocks.old) }
 {
     let len = 16 + u64::from(prefix.size);
     if len > MOST_BYTES {
@@ -126,6 +130,8 @@ pub fn read_header<V: Space>(alloc: Global, blocks: &mut Blocks<V>, at: u64) -> 
     ensures listed { OnOk result ((met : List Block) × Keeps V.view blocks.new met) }
     ensures failed { IsErrOf result Stop.Failed
         → OneRose (V.faults (space_of blocks.old)) (V.faults (space_of blocks.new)) }
+    ensures calm { ¬ IsErrOf result Stop.Failed
+        → V.faults (space_of blocks.new) ≡ V.faults (space_of blocks.old) }
 {
     let first = blocks.read_bytes(alloc, at, first_len(at))?;
     if is_later(first.as_slice()) {

@@ -13,7 +13,7 @@ ghost use Rattle.file_model.specs.Limits.{most_header};
 ghost use Rattle.file_model.specs.Refusals.{met_bytes};
 ghost use Rattle.header_reader.specs.Gathered.{Gathers};
 ghost use Rattle.header_reader.specs.Walks.{Meets, IsMessageAt, AreMessages, IsNameRefused, IsStepRefused, IsBlockStop};
-ghost use Rattle.header_reader.specs.Walks.{waiting_of};
+ghost use Rattle.header_reader.specs.Walks.{waiting_of, named_by};
 
 use crate::messages::Messages;
 use block_space::Blocks;
@@ -133,11 +133,9 @@ impl Walk {
         requires short { self.old.total ≤ most_header }
         requires whole { kind ≡ 0x10 → 16 ≤ length body.now }
         ensures kept { OnOk result ((met : List Block) → Keeps V.view blocks.old met
-            → Keeps V.view blocks.new (met ++ continued (record { kind = kind; flags = 0; body = body.now }))) }
-        ensures waiting { OnOk result (waiting_of self.new ≡ waiting_of self.old ++ continued
-            (record { kind = kind; flags = 0; body = body.now })) }
-        ensures total { OnOk result (self.new.total ≡ self.old.total + met_bytes
-            (continued (record { kind = kind; flags = 0; body = body.now }))) }
+            → Keeps V.view blocks.new (met ++ named_by kind body.now)) }
+        ensures waiting { OnOk result (waiting_of self.new ≡ waiting_of self.old ++ named_by kind body.now) }
+        ensures total { OnOk result (self.new.total ≡ self.old.total + met_bytes (named_by kind body.now)) }
         ensures short { OnOk result (self.new.total ≤ most_header) }
         ensures messages { self.new.messages ≡ self.old.messages }
         ensures wanted { self.new.wanted ≡ self.old.wanted }
@@ -164,9 +162,9 @@ impl Walk {
         requires stands { V.Stands (space_of blocks.old) }
         requires short { self.old.total ≤ most_header }
         requires wanted { 0 < self.old.wanted }
-        requires fits { start + length bytes.now ≤ 2 ^ 64 }
+        requires fits { start + length bytes.now < 2 ^ 64 }
         requires room { place + 8 ≤ length bytes.now }
-        ensures found { IfOk result (λ next. (m : Met) × IsMessageAt bytes.now place m
+        ensures found { IfOk result (λ next. (m : Met) × IsMessageAt start bytes.now place m
             × (next ≡ place + 8 + length m.body) × Meets self.old self.new (m ∷ [])
             × ((met : List Block) → Keeps V.view blocks.old met → Keeps V.view blocks.new (met ++ continued m))) }
         ensures within { IfOk result (λ next. next ≤ length bytes.now) }
@@ -180,8 +178,9 @@ impl Walk {
         };
         let body = &bytes[message.at..message.at + message.len];
         self.follow(blocks, message.kind, body)?;
+        let at = start + message.at as u64;
         self.messages
-            .meet(alloc, message.kind, message.flags, body)?;
+            .meet(alloc, message.kind, message.flags, at, body)?;
         self.wanted -= 1;
         Ok(message.at + message.len)
     }
@@ -196,8 +195,8 @@ impl Walk {
     ) -> Result<(), Stop>
         requires stands { V.Stands (space_of blocks.old) }
         requires short { self.old.total ≤ most_header }
-        requires fits { start + length bytes.now ≤ 2 ^ 64 }
-        ensures found { OnOk result ((ms : List Met) × AreMessages bytes.now self.old.wanted ms
+        requires fits { start + length bytes.now < 2 ^ 64 }
+        ensures found { OnOk result ((ms : List Met) × AreMessages start bytes.now self.old.wanted ms
             × Meets self.old self.new ms
             × ((met : List Block) → Keeps V.view blocks.old met
             → Keeps V.view blocks.new (met ++ flat_map continued ms))) }
@@ -223,7 +222,7 @@ impl Walk {
         requires stands { V.Stands (space_of blocks.old) }
         requires short { self.old.total ≤ most_header }
         ensures found { OnOk result ((ms : List Met)
-            × (IsTrue V.tells → AreMessages (bytes_of (array_of V.view blocks.old) part.start part.len)
+            × (IsTrue V.tells → AreMessages part.start (bytes_of (array_of V.view blocks.old) part.start part.len)
             self.old.wanted ms)
             × AreWhole ms × Meets self.old self.new ms
             × ((met : List Block) → Keeps V.view blocks.old met
@@ -233,6 +232,8 @@ impl Walk {
         ensures alike { V.Alike (space_of blocks.old) (space_of blocks.new) }
         ensures failed { IsErrOf result Stop.Failed
             → OneRose (V.faults (space_of blocks.old)) (V.faults (space_of blocks.new)) }
+        ensures calm { ¬ IsErrOf result Stop.Failed
+            → V.faults (space_of blocks.new) ≡ V.faults (space_of blocks.old) }
     {
         let bytes = blocks.read_bytes(alloc, part.start, part.len as usize)?;
         self.meet_all(alloc, blocks, part.start, bytes.as_slice())

@@ -1,14 +1,15 @@
 -- What was read of a link, of all links of a group and of an object, put together.
-use Rattle.std.proofs.Common.{◌≡◌, ℕ, ◌+◌, ◌-◌, ◌≤◌, Bool, List, [], ◌∷◌, ◌++◌, map, Option, Some, Result, Ok, Err, OnOk, IfErr, IfSome, refl, sym, ap, subst, inl, inr, IsTrue}
+use Rattle.std.proofs.Common.{◌≡◌, ℕ, ◌+◌, ◌-◌, ◌<◌, ◌≤◌, Bool, List, [], ◌∷◌, ◌++◌, map, Option, Some, Result, Ok, Err, OnOk, IfErr, IfSome, refl, sym, ap, subst, inl, inr, IsTrue}
 use Rattle.std.proofs.lemmas.List.{append_assoc}
 use Rattle.outside.specs.Array.{Array}
 use Rattle.outside.specs.Blocks.{Block}
 use Rattle.outside.specs.Space.{SpaceView, bounds_of}
-use Rattle.block_space.specs.Blocks.{Keeps, Takes}
+use Rattle.block_space.specs.Blocks.{Keeps, Takes, space_of}
 use Rattle.block_space.specs.declared.blocks.Blocks.{Blocks}
 use Rattle.h5_base.specs.declared.refusal.Stop.{Stop}
 use Rattle.h5_base.specs.Refusals.{refusal_of}
 use Rattle.block_space.proofs.Stopped.{if_some}
+use Rattle.block_space.proofs.Taken.{taken_over}
 use Rattle.object_model.specs.Tree.{Group, Name, AreOrdered}
 use Rattle.file_model.specs.Groups.{Ks, Found, Target, Header, HasLinks}
 use Rattle.file_model.specs.Holds.{Full, FullLinks, founds, blocks_in, blocks_of}
@@ -93,16 +94,18 @@ table_refused view old v ks levels objects tree heap stop h met own keeps =
 
 abbrev pub EachRefused : {V : Type 0} → (V → SpaceView) → (mid : Blocks V) → SpaceView → Ks → (levels objects : ℕ) → List Found → Stop → Type 0
 EachRefused view mid w ks levels objects fs stop =
-    (met : List Block) (own : Option (List ℕ)) → Keeps view mid met → IfSome (refusal_of stop) (AreLinksRefused (IsObjectRefused w.array (bounds_of w own) ks levels) w.array ks objects met fs)
+    (met : List Block) (own : Option (List ℕ)) → Keeps view mid met → IfSome (refusal_of stop)
+    (AreLinksRefused (IsObjectRefused w.array (bounds_of w own) ks levels) w.array (bounds_of w own) ks levels objects met fs)
 
-pub each_refused : {V T : Type 0} (view : V → SpaceView) (old mid : Blocks V) (v w : SpaceView) (ks : Ks) (levels objects tree heap : ℕ) (fs : List Found) (r : Result T Stop) → v ≡ w → TableRead view old mid v.array ks tree heap fs
+pub each_refused : {V T : Type 0} (view : V → SpaceView) (old mid : Blocks V) (v w : SpaceView) (ks : Ks) (levels objects tree heap : ℕ) (fs : List Found) (r : Result T Stop) → v ≡ w → v ≡ view (space_of mid) → TableRead view old mid v.array ks tree heap fs
     → IfErr r (EachRefused view mid w ks levels objects fs) → IfErr r (GroupRefused view old v ks levels objects tree heap)
-each_refused view old mid v w ks levels objects tree heap fs (Ok x) same table h = tt
-each_refused view old mid v w ks levels objects tree heap fs (Err stop) same table h = λ met own keeps.
+each_refused view old mid v w ks levels objects tree heap fs (Ok x) same now table h = tt
+each_refused view old mid v w ks levels objects tree heap fs (Err stop) same now table h = λ met own keeps.
     let (index, links, small, kept) = table met keeps in
     let h' : EachRefused view mid v ks levels objects fs stop = subst (λ (a : SpaceView). EachRefused view mid a ks levels objects fs stop) (sym same) h in
-    if_some (refusal_of stop) (AreLinksRefused (IsObjectRefused v.array (bounds_of v own) ks levels) v.array ks objects (met ++ index) fs) (IsGroupRefused v.array (bounds_of v own) ks levels objects met tree heap)
-    (λ r x. inr (fs, index, links, x)) (h' (met ++ index) own kept)
+    if_some (refusal_of stop)
+    (AreLinksRefused (IsObjectRefused v.array (bounds_of v own) ks levels) v.array (bounds_of v own) ks levels objects (met ++ index) fs) (IsGroupRefused v.array (bounds_of v own) ks levels objects met tree heap)
+    (λ r x. inr (fs, index, links, taken_over view mid v met index own now kept, small, x)) (h' (met ++ index) own kept)
 
 -- ---- an object and all below it
 
@@ -127,12 +130,12 @@ object_from view old mid new before linked after b c ks levels at group key tree
 abbrev pub ObjectRefused : {V : Type 0} → (V → SpaceView) → (old : Blocks V) → SpaceView → Ks → (levels objects at : ℕ) → Stop → Type 0
 ObjectRefused view old v ks levels objects at stop = (met : List Block) (own : Option (List ℕ)) → Keeps view old met → IfSome (refusal_of stop) (IsObjectRefused v.array (bounds_of v own) ks levels objects met at)
 
-pub object_refused : {V T : Type 0} (view : V → SpaceView) (old mid : Blocks V) (v w : SpaceView) (ks : Ks) (levels objects count at tree heap : ℕ) (n : Node) (r : Result T Stop) → v ≡ w → 1 ≤ levels → table_of n ≡ Some (record { tree_at = tree; heap_at = heap }) → count ≡ objects + 1
+pub object_refused : {V T : Type 0} (view : V → SpaceView) (old mid : Blocks V) (v w : SpaceView) (ks : Ks) (levels objects count at tree heap : ℕ) (n : Node) (r : Result T Stop) → v ≡ w → v ≡ view (space_of mid) → objects < 65536 → 1 ≤ levels → table_of n ≡ Some (record { tree_at = tree; heap_at = heap }) → count ≡ objects + 1
     → ((met : List Block) → Keeps view old met → (own : List Block) × IsNodeFound v.array ks at n own × Keeps view mid (met ++ own))
     → IfErr r (GroupRefused view mid w ks (levels - 1) count tree heap) → IfErr r (ObjectRefused view old v ks levels objects at)
-object_refused view old mid v w ks levels objects count at tree heap n (Ok x) same some table counted read h = tt
-object_refused view old mid v w ks levels objects count at tree heap n (Err stop) same some table counted read h = λ met own keeps.
+object_refused view old mid v w ks levels objects count at tree heap n (Ok x) same now few some table counted read h = tt
+object_refused view old mid v w ks levels objects count at tree heap n (Err stop) same now few some table counted read h = λ met own keeps.
     let (bs, found, kept) = read met keeps in
     let h' : GroupRefused view mid v ks (levels - 1) count tree heap stop = subst (λ (a : SpaceView). GroupRefused view mid a ks (levels - 1) count tree heap stop) (sym same) h in
     if_some (refusal_of stop) (IsGroupRefused v.array (bounds_of v own) ks (levels - 1) count (met ++ bs) tree heap) (IsObjectRefused v.array (bounds_of v own) ks levels objects met at)
-    (λ r x. group_refused v.array (bounds_of v own) ks levels objects count at tree heap n met bs r some table found counted x) (h' (met ++ bs) own kept)
+    (λ r x. group_refused v.array (bounds_of v own) ks levels objects count at tree heap n met bs r few some (taken_over view mid v met bs own now kept) table found counted x) (h' (met ++ bs) own kept)

@@ -1,12 +1,12 @@
 -- What was found where a header is makes a node.
-use Rattle.std.proofs.Common.{◌≡◌, ℕ, ◌≤◌, false, List, ◌++◌, Option, IfSome, Result, Ok, Err, OnOk, refl, sym, ◌∙◌, ap, subst}
+use Rattle.std.proofs.Common.{◌≡◌, ℕ, ◌<◌, ◌≤◌, false, List, ◌++◌, Option, IfSome, Result, Ok, Err, OnOk, refl, sym, ◌∙◌, ap, subst}
 use Rattle.header_codec.specs.declared.types.Prefix.{Prefix}
 use Rattle.std.proofs.lemmas.List.{append_assoc}
 use Rattle.outside.specs.Array.{Array}
 use Rattle.outside.specs.Space.{SpaceView, bounds_of}
 use Rattle.block_space.specs.Blocks.{Keeps, Takes}
 use Rattle.block_space.specs.declared.blocks.Blocks.{Blocks}
-use Rattle.outside.specs.Blocks.{Block, Bounds}
+use Rattle.outside.specs.Blocks.{Block, Bounds, AreTaken}
 use Rattle.file_model.specs.Headers.{Part, IsHeader, header_blocks}
 use Rattle.file_model.specs.Groups.{Ks}
 use Rattle.file_model.specs.Chunks.{Chunk, IsStoredBy, elements_of}
@@ -15,7 +15,7 @@ use Rattle.file_model.specs.Limits.{most_header, header_bytes, IsShort}
 use Rattle.h5_base.specs.declared.refusal.Refusal.{Refusal}
 use Rattle.file_model.specs.Refusals.{IsHeaderRefused}
 use Rattle.file_model.specs.RefusedChunks.{IsStorageRefused}
-use Rattle.file_model.specs.RefusedTree.{RefusedObject, IsRefusedWith, InHeader, InStorage, IsObjectRefused}
+use Rattle.file_model.specs.RefusedTree.{RefusedObject, IsRefusedWith, InHeader, InStorage, IsObjectRefused, WasRead}
 use Rattle.file_model.proofs.UniqueHeaders.{prefix_same, header_same}
 use Rattle.file_model.proofs.UniqueTree.{not_later}
 use Rattle.storage_reader.specs.declared.storage.Elements.{Elements}
@@ -119,31 +119,42 @@ data_found b ks at (node.Dataset header shape elem fill layout filtered) bs ss c
 data_found b ks at (node.Soft text) bs ss cs e parts f stored = absurd parts
 data_found b ks at (node.Other header) bs ss cs e parts f stored = absurd parts
 
-data_refused : (Refused : RefusedObject) (b : Array) (e : Bounds) (ks : Ks) (objects at : ℕ) (n : Node)
+-- a header that was read, with its blocks taken
+pub was_read : (b : Array) (e : Bounds) (met bs : List Block) (at : ℕ) (prefix : Prefix) (parts : List Part)
+    → IsHeader b at prefix parts → bs ≡ header_blocks at prefix parts → header_bytes at prefix parts ≤ most_header
+    → AreTaken e met bs → WasRead b e met at prefix parts
+was_read b e met bs at prefix parts h is short taken = record {
+  header = h;
+  blocks = record { taken = subst (AreTaken e met) is taken; short = short };
+}
+
+data_refused : (Refused : RefusedObject) (b : Array) (e : Bounds) (ks : Ks) (levels objects at : ℕ) (n : Node)
     (met bs : List Block) (x : Elements) (r : Refusal) (parts : HasParts n x) (f : IsFound b at (header.Known n) bs)
-    → IsStorageRefused b e ks.chunk (info_at b at n bs x parts f) (met ++ bs) r
-    → IsRefusedWith Refused b e ks objects met at r
-data_refused Refused b e ks objects at (node.Group header tree heap) met bs x r parts f y = absurd parts
-data_refused Refused b e ks objects at (node.Dataset header shape elem fill layout filtered) met bs x r parts f y =
-    InStorage f.0 f.1 f.3.1 f.2 f.3.2 (subst (λ (l : List Block). IsStorageRefused b e ks.chunk f.3.1 (met ++ l) r) f.4 y)
-data_refused Refused b e ks objects at (node.Soft text) met bs x r parts f y = absurd parts
-data_refused Refused b e ks objects at (node.Other header) met bs x r parts f y = absurd parts
+    → objects < 65536 → AreTaken e met bs → IsStorageRefused b e ks.chunk (info_at b at n bs x parts f) (met ++ bs) r
+    → IsRefusedWith Refused b e ks levels objects met at r
+data_refused Refused b e ks levels objects at (node.Group header tree heap) met bs x r parts f few taken y = absurd parts
+data_refused Refused b e ks levels objects at (node.Dataset header shape elem fill layout filtered) met bs x r parts f few taken y =
+    InStorage f.0 f.1 f.3.1 few (was_read b e met bs at f.0 f.1 f.2 f.4 f.5 taken) f.3.2
+    (subst (λ (l : List Block). IsStorageRefused b e ks.chunk f.3.1 (met ++ l) r) f.4 y)
+data_refused Refused b e ks levels objects at (node.Soft text) met bs x r parts f few taken y = absurd parts
+data_refused Refused b e ks levels objects at (node.Other header) met bs x r parts f few taken y = absurd parts
 
-pub all_data_refused : (Refused : RefusedObject) (b : Array) (e : Bounds) (ks : Ks) (objects at : ℕ) (n : Node)
+pub all_data_refused : (Refused : RefusedObject) (b : Array) (e : Bounds) (ks : Ks) (levels objects at : ℕ) (n : Node)
     (met bs : List Block) (x : Elements) (stop : Stop) (parts : HasParts n x) (f : IsFound b at (header.Known n) bs)
+    → objects < 65536 → AreTaken e met bs
     → IfSome (refusal_of stop) (IsStorageRefused b e ks.chunk (info_at b at n bs x parts f) (met ++ bs))
-    → IfSome (refusal_of stop) (IsRefusedWith Refused b e ks objects met at)
-all_data_refused Refused b e ks objects at n met bs x stop parts f y =
+    → IfSome (refusal_of stop) (IsRefusedWith Refused b e ks levels objects met at)
+all_data_refused Refused b e ks levels objects at n met bs x stop parts f few taken y =
     if_some (refusal_of stop) (IsStorageRefused b e ks.chunk (info_at b at n bs x parts f) (met ++ bs))
-    (IsRefusedWith Refused b e ks objects met at)
-    (λ r z. data_refused Refused b e ks objects at n met bs x r parts f z) y
+    (IsRefusedWith Refused b e ks levels objects met at)
+    (λ r z. data_refused Refused b e ks levels objects at n met bs x r parts f few taken z) y
 
-pub all_header_refused : (Refused : RefusedObject) (b : Array) (e : Bounds) (ks : Ks) (objects at : ℕ)
-    (met : List Block) (stop : Stop) → IfSome (refusal_of stop) (IsHeaderRefused b e met at)
-    → IfSome (refusal_of stop) (IsRefusedWith Refused b e ks objects met at)
-all_header_refused Refused b e ks objects at met stop x =
-    if_some (refusal_of stop) (IsHeaderRefused b e met at) (IsRefusedWith Refused b e ks objects met at)
-    (λ r y. InHeader y) x
+pub all_header_refused : (Refused : RefusedObject) (b : Array) (e : Bounds) (ks : Ks) (levels objects at : ℕ)
+    (met : List Block) (stop : Stop) → objects < 65536 → IfSome (refusal_of stop) (IsHeaderRefused b e met at)
+    → IfSome (refusal_of stop) (IsRefusedWith Refused b e ks levels objects met at)
+all_header_refused Refused b e ks levels objects at met stop few x =
+    if_some (refusal_of stop) (IsHeaderRefused b e met at) (IsRefusedWith Refused b e ks levels objects met at)
+    (λ r y. InHeader few y) x
 
 pub keeps_joined : {V : Type 0} (view : V → SpaceView) (blocks : Blocks V) (met bs ss : List Block)
     → Keeps view blocks ((met ++ bs) ++ ss) → Keeps view blocks (met ++ (bs ++ ss))
@@ -165,21 +176,21 @@ node_after view old mid new b c ks at n same first next met keeps =
 
 abbrev NodeRefused : SpaceView → Ks → (levels objects : ℕ) → Option (List ℕ) → List Block → ℕ → Refusal → Type 0
 NodeRefused v ks levels objects own met at =
-    IsRefusedWith (IsObjectRefused v.array (bounds_of v own) ks levels) v.array (bounds_of v own) ks objects met at
+    IsRefusedWith (IsObjectRefused v.array (bounds_of v own) ks levels) v.array (bounds_of v own) ks levels objects met at
 
 abbrev RefusedAfter : {V : Type 0} → (V → SpaceView) → (mid : Blocks V) → SpaceView → Ks → Node → Stop → Type 0
-RefusedAfter view mid v ks n stop = (at levels objects : ℕ) (met bs : List Block) (own : Option (List ℕ))
+RefusedAfter view mid v ks n stop = (at levels objects : ℕ) (met bs : List Block) (own : Option (List ℕ)) → objects < 65536
     → IsFound v.array at (header.Known n) bs → Keeps view mid (met ++ bs)
     → IfSome (refusal_of stop) (NodeRefused v ks levels objects own met at)
 
 pub refused_after : {V : Type 0} (view : V → SpaceView) (old mid : Blocks V) (v w : SpaceView) (ks : Ks)
-    (at objects : ℕ) (n : Node) (stop : Stop) → v ≡ w
+    (at objects : ℕ) (n : Node) (stop : Stop) → v ≡ w → objects < 65536
     → Takes view old mid (IsFound v.array at (header.Known n)) → RefusedAfter view mid w ks n stop
     → (levels : ℕ) (met : List Block) (own : Option (List ℕ)) → Keeps view old met
     → IfSome (refusal_of stop) (NodeRefused v ks levels objects own met at)
-refused_after view old mid v w ks at objects n stop same first next levels met own keeps =
+refused_after view old mid v w ks at objects n stop same few first next levels met own keeps =
     let f = first met keeps in
-    subst (λ (x : SpaceView). RefusedAfter view mid x ks n stop) (sym same) next at levels objects met f.0 own f.1 f.2
+    subst (λ (x : SpaceView). RefusedAfter view mid x ks n stop) (sym same) next at levels objects met f.0 own few f.1 f.2
 
 -- what was found, as one of its cases
 pub found_as : {V : Type 0} (view : V → SpaceView) (old mid : Blocks V) (b : Array) (at : ℕ) (h j : Header) → h ≡ j

@@ -1,8 +1,9 @@
 -- One object that was read, with all below it.
-use Rattle.std.proofs.Common.{◌≡◌, ◌≢◌, ℕ, zero, suc, ◌+◌, ◌-◌, ◌≤◌, true, List, [], ◌++◌, Option, Some, None, IfSome, refl, sym, ◌∙◌, ap, subst, arith, inl, inr}
+use Rattle.std.proofs.Common.{◌≡◌, ◌≢◌, ℕ, zero, suc, ◌+◌, ◌-◌, ◌<◌, ◌≤◌, true, List, [], ◌++◌, Option, Some, None, IfSome, refl, sym, ◌∙◌, ap, subst, arith, inl, inr}
 use Rattle.std.proofs.lemmas.List.{append_assoc, append-nil}
 use Rattle.outside.specs.Array.{Array}
-use Rattle.outside.specs.Blocks.{Block, Bounds}
+use Rattle.outside.specs.Blocks.{Block, Bounds, AreTaken}
+use Rattle.outside.proofs.Taken.{taken_both}
 use Rattle.outside.specs.Space.{SpaceView}
 use Rattle.block_space.specs.Blocks.{Keeps}
 use Rattle.block_space.specs.declared.blocks.Blocks.{Blocks}
@@ -25,7 +26,7 @@ use Rattle.tree_nodes.specs.Shown.{KeyedLinks, single, HasKey, HasKeyBelow}
 use Rattle.object_tree.specs.declared.growing.Table.{Table}
 use Rattle.object_tree.specs.Opened.{IsGroupNode, IsLeafNode, Matches}
 use Rattle.object_tree.specs.Grown.{Grows, Adds, IsBareGroup, IsLeafFound, IsNodeFound, AreOpened, IsOpenedAt, IsGroupRefused, table_of}
-use Rattle.object_tree.proofs.NodesFound.{short_of}
+use Rattle.object_tree.proofs.NodesFound.{short_of, was_read}
 
 -- ---- soft links
 
@@ -154,35 +155,39 @@ group_opened view new b ks levels at key tree heap n kls met own index ls some t
 
 -- ---- refusals
 
-pub refused_at : (b : Array) (e : Bounds) (ks : Ks) (levels objects : ℕ) (met : List Block) (at : ℕ) (r : Refusal) → 1 ≤ levels → IsRefusedWith (IsObjectRefused b e ks (levels - 1)) b e ks objects met at r → IsObjectRefused b e ks levels objects met at r
+pub refused_at : (b : Array) (e : Bounds) (ks : Ks) (levels objects : ℕ) (met : List Block) (at : ℕ) (r : Refusal) → 1 ≤ levels → IsRefusedWith (IsObjectRefused b e ks (levels - 1)) b e ks (levels - 1) objects met at r → IsObjectRefused b e ks levels objects met at r
 refused_at b e ks zero objects met at r some x = absurd (omega (arith, some))
-refused_at b e ks (suc levels) objects met at r some x = let same : suc levels - 1 ≡ levels = omega arith in subst (λ (n : ℕ). IsRefusedWith (IsObjectRefused b e ks n) b e ks objects met at r) same x
+refused_at b e ks (suc levels) objects met at r some x = let same : suc levels - 1 ≡ levels = omega arith in subst (λ (n : ℕ). IsRefusedWith (IsObjectRefused b e ks n) b e ks n objects met at r) same x
 
-pub all_refused_at : (b : Array) (e : Bounds) (ks : Ks) (levels objects : ℕ) (met : List Block) (at : ℕ) (stop : Stop) → 1 ≤ levels → IfSome (refusal_of stop) (IsRefusedWith (IsObjectRefused b e ks (levels - 1)) b e ks objects met at)
+pub all_refused_at : (b : Array) (e : Bounds) (ks : Ks) (levels objects : ℕ) (met : List Block) (at : ℕ) (stop : Stop) → 1 ≤ levels → IfSome (refusal_of stop) (IsRefusedWith (IsObjectRefused b e ks (levels - 1)) b e ks (levels - 1) objects met at)
     → IfSome (refusal_of stop) (IsObjectRefused b e ks levels objects met at)
 all_refused_at b e ks levels objects met at stop some x =
-    if_some (refusal_of stop) (IsRefusedWith (IsObjectRefused b e ks (levels - 1)) b e ks objects met at) (IsObjectRefused b e ks levels objects met at) (λ r y. refused_at b e ks levels objects met at r some y) x
+    if_some (refusal_of stop) (IsRefusedWith (IsObjectRefused b e ks (levels - 1)) b e ks (levels - 1) objects met at) (IsObjectRefused b e ks levels objects met at) (λ r y. refused_at b e ks levels objects met at r some y) x
+
+-- a group whose header was read is refused for its table, or below it
+pub group_below : (b : Array) (e : Bounds) (ks : Ks) (levels objects count at tree heap : ℕ) {header : ℕ} (met own : List Block) (r : Refusal) → objects < 65536 → AreTaken e met own
+    → IsNodeFound b ks at (node.Group header tree heap) own → count ≡ objects + 1
+    → IsGroupRefused b e ks levels count (met ++ own) tree heap r → IsRefusedWith (IsObjectRefused b e ks levels) b e ks levels objects met at r
+group_below b e ks levels objects count at tree heap met own r few taken f counted (inl y) =
+    InTable f.0 f.1 tree heap few (was_read b e met own at f.0 f.1 f.2 f.5 f.6 taken) f.3 (subst (λ (l : List Block). IsTableRefused b e ks (met ++ l) tree heap r) f.5 y)
+group_below b e ks levels objects count at tree heap met own r few taken f counted (inr (fs, index, links, behind, small, y)) =
+    let g : GroupAt = record { header_at = at; tree_at = tree; heap_at = heap; own = own ++ index } in
+    let group : IsGroup b ks g fs = record { prefix = f.0; parts = f.1; header = f.2; table = f.3; index = index; links = links; blocks = ap (λ (l : List Block). l ++ index) f.5 } in
+    let y' = subst (λ (k : ℕ). AreLinksRefused (IsObjectRefused b e ks levels) b e ks levels k ((met ++ own) ++ index) fs r) counted y in
+    InLinks g fs few refl group (taken_both e met own index behind) (short_of b at f.0 f.1 f.2 f.6) small
+    (subst (λ (l : List Block). AreLinksRefused (IsObjectRefused b e ks levels) b e ks levels (objects + 1) l fs r) (append_assoc met own index) y')
 
 pub refused_counted : (b : Array) (e : Bounds) (ks : Ks) (levels told objects : ℕ) (met : List Block) (at : ℕ) (stop : Stop) → told ≡ objects → 1 ≤ levels
-    → IfSome (refusal_of stop) (IsRefusedWith (IsObjectRefused b e ks (levels - 1)) b e ks told met at) → IfSome (refusal_of stop) (IsObjectRefused b e ks levels objects met at)
+    → IfSome (refusal_of stop) (IsRefusedWith (IsObjectRefused b e ks (levels - 1)) b e ks (levels - 1) told met at) → IfSome (refusal_of stop) (IsObjectRefused b e ks levels objects met at)
 refused_counted b e ks levels told objects met at stop same some x =
-    all_refused_at b e ks levels objects met at stop some (subst (λ (k : ℕ). IfSome (refusal_of stop) (IsRefusedWith (IsObjectRefused b e ks (levels - 1)) b e ks k met at)) same x)
+    all_refused_at b e ks levels objects met at stop some (subst (λ (k : ℕ). IfSome (refusal_of stop) (IsRefusedWith (IsObjectRefused b e ks (levels - 1)) b e ks (levels - 1) k met at)) same x)
 
-pub group_refused : (b : Array) (e : Bounds) (ks : Ks) (levels objects count at tree heap : ℕ) (n : Node) (met own : List Block) (r : Refusal) → 1 ≤ levels → table_of n ≡ Some (record { tree_at = tree; heap_at = heap }) → IsNodeFound b ks at n own → count ≡ objects + 1
+pub group_refused : (b : Array) (e : Bounds) (ks : Ks) (levels objects count at tree heap : ℕ) (n : Node) (met own : List Block) (r : Refusal) → objects < 65536 → 1 ≤ levels → AreTaken e met own
+    → table_of n ≡ Some (record { tree_at = tree; heap_at = heap }) → IsNodeFound b ks at n own → count ≡ objects + 1
     → IsGroupRefused b e ks (levels - 1) count (met ++ own) tree heap r → IsObjectRefused b e ks levels objects met at r
-group_refused b e ks levels objects count at tree heap n met own r some table f counted x =
-    refused_at b e ks levels objects met at r some (go x)
+group_refused b e ks levels objects count at tree heap n met own r few some taken table f counted x =
+    refused_at b e ks levels objects met at r some
+    (group_below b e ks (levels - 1) objects count at tree heap met own r few taken (subst (λ (x : Node). IsNodeFound b ks at x own) found.1 f) counted x)
   where
     found : (header : ℕ) × (n ≡ node.Group header tree heap)
     found = group_node n tree heap table
-
-    f' : IsNodeFound b ks at (node.Group found.0 tree heap) own
-    f' = subst (λ (x : Node). IsNodeFound b ks at x own) found.1 f
-
-    go : IsGroupRefused b e ks (levels - 1) count (met ++ own) tree heap r → IsRefusedWith (IsObjectRefused b e ks (levels - 1)) b e ks objects met at r
-    go (inl y) = InTable f'.0 f'.1 tree heap f'.2 f'.3 (subst (λ (l : List Block). IsTableRefused b e ks (met ++ l) tree heap r) f'.5 y)
-    go (inr (fs, index, links, y)) =
-        let g : GroupAt = record { header_at = at; tree_at = tree; heap_at = heap; own = own ++ index } in
-        let group : IsGroup b ks g fs = record { prefix = f'.0; parts = f'.1; header = f'.2; table = f'.3; index = index; links = links; blocks = ap (λ (l : List Block). l ++ index) f'.5 } in
-        let y' = subst (λ (k : ℕ). AreLinksRefused (IsObjectRefused b e ks (levels - 1)) b ks k ((met ++ own) ++ index) fs r) counted y in
-        InLinks g fs refl group (subst (λ (l : List Block). AreLinksRefused (IsObjectRefused b e ks (levels - 1)) b ks (objects + 1) l fs r) (append_assoc met own index) y')

@@ -1,25 +1,28 @@
 -- The superblock and the root of a file, put together with all below it.
 use Rattle.std.proofs.Common.{◌≡◌, ℕ, suc, ◌≤◌, ◌<◌, min, true, false, Bool, IsTrue, List, [], ◌∷◌, ◌++◌, map, Option, Some, None, Result, Ok, Err, IfOk, IfErr, IfSome, refl, sym, ◌∙◌, ap, subst, arith, inl, inr, lit<}
 use Rattle.std.specs.List.{Contains}
+use Rattle.std.specs.Prelude.{is_some}
 use Rattle.std.proofs.lemmas.List.{append_assoc}
 use Rattle.std.proofs.lemmas.List.FromFn.{length-map-range_with_len}
 use Rattle.outside.specs.Array.{Array, bytes_of}
-use Rattle.outside.specs.Blocks.{Block, Bounds, AllSome, AreKept}
+use Rattle.outside.specs.Blocks.{Block, Bounds, AllSome, AreKept, AreTaken}
+use Rattle.outside.proofs.Taken.{taken_first}
 use Rattle.outside.specs.Space.{SpaceView, bounds_of}
 use Rattle.h5_base.specs.declared.extent.MemClass.TheVariants as class
 use Rattle.h5_base.specs.declared.kinds.BlockKind.TheVariants as kinds
 use Rattle.h5_base.specs.declared.kinds.What.TheVariants as what
-use Rattle.block_space.specs.Blocks.{Keeps, Takes}
+use Rattle.block_space.specs.Blocks.{Keeps, Takes, space_of}
 use Rattle.block_space.specs.declared.blocks.Blocks.{Blocks}
 use Rattle.h5_base.specs.declared.refusal.Stop.{Stop}
 use Rattle.h5_base.specs.Refusals.{refusal_of}
 use Rattle.block_space.proofs.Stopped.{if_some}
+use Rattle.block_space.proofs.Taken.{taken_over}
 use Rattle.super_codec.specs.Super.{Spells, Fits, super_len, stop_of}
 use Rattle.super_codec.specs.declared.superblock.Superblock.{Superblock}
 use Rattle.super_codec.specs.declared.superblock.SuperStop.{SuperStop}
 use Rattle.object_model.specs.Tree.{Group, Leaf, Empty, Link, names, IsOrdered, AreOrderedBelow, AreOrdered}
 use Rattle.file_model.specs.Headers.{Met, messages_of}
-use Rattle.file_model.specs.Objects.{has}
+use Rattle.file_model.specs.Objects.{has, IsGroupHeader}
 use Rattle.file_model.specs.Groups.{Ks, HasLinks}
 use Rattle.file_model.specs.Holds.{GroupAt, Full, FullLinks, IsGroup, IsHeld, AreHeld, founds, blocks_in, ks_of, HasDriver, super_bytes_of, HoldsFull}
 use Rattle.file_model.specs.Limits.{IsSmallHeap, IsWithinLimits}
@@ -30,7 +33,7 @@ use Rattle.outside.specs.Blocks.{IsBlockRefused}
 use Rattle.file_model.specs.Refusals.{IsHeaderRefused}
 use Rattle.file_model.specs.RefusedGroups.{IsTableRefused}
 use Rattle.file_model.proofs.NoRefusal.{not_refused_file}
-use Rattle.file_model.specs.RefusedTree.{IsRefusedWith, InHeader, InTable, InLinks, IsObjectRefused, IsFileRefused, NoSuper, InTree, LaterRoot, NoGroup, super_block, of_super}
+use Rattle.file_model.specs.RefusedTree.{IsRootRefused, RootHeader, LaterRoot, NoGroup, InGroup, IsFileRefused, NoSuper, InTree, super_block, of_super}
 use Rattle.file_model.proofs.NoFault.{IsFree, not_refused}
 use Rattle.header_reader.specs.Gathered.{MakesNode}
 use Rattle.header_reader.specs.Found.{IsFound}
@@ -45,8 +48,8 @@ use Rattle.tree_nodes.specs.Shown.{Keyed, KeyedLinks, Shows, AreKept as AreNodes
 use Rattle.object_tree.specs.Opened.{Matches, IsOpened, file_blocks}
 use Rattle.object_tree.specs.Sound.{HasSoundNodes, IsSoundTree}
 use Rattle.object_tree.specs.Grown.{Grows, AreOpened, IsGroupRefused, HasRoot, table_of}
-use Rattle.object_tree.proofs.NodesFound.{short_of}
-use Rattle.object_tree.proofs.Objects.{group_node, table_group, group_objects}
+use Rattle.object_tree.proofs.NodesFound.{short_of, was_read}
+use Rattle.object_tree.proofs.Objects.{group_node, table_group, group_objects, group_below}
 use Rattle.object_tree.proofs.Growth.{not_none}
 use Rattle.object_tree.proofs.SoFar.{counts_same}
 
@@ -236,34 +239,43 @@ root_opened view old mid new v b s head tree heap kept kls same now spelled take
 
 -- ---- the refused root
 
-pub root_refused : (b : Array) (e : Bounds) (s : Superblock) (r : Refusal) → Spells s (super_bytes_of b e) → e.own ≡ None → IsRefusedWith (IsObjectRefused b e (ks_of s) 32) b e (ks_of s) 0 (super_block s ∷ []) s.root.header_at r → IsFileRefused b e r
-root_refused b e s r spelled own x = InTree s [] spelled (subst (λ (o : Option (List ℕ)). HasDriver b o s.driver_at []) (sym own) refl) x
+-- the superblock's block was taken first
+pub root_refused : (b : Array) (e : Bounds) (s : Superblock) (r : Refusal) → Spells s (super_bytes_of b e) → e.own ≡ None → AreTaken e [] (super_block s ∷ [])
+    → IsRootRefused b e (ks_of s) (super_block s ∷ []) s.root.header_at r → IsFileRefused b e r
+root_refused b e s r spelled own taken x = InTree s [] spelled (subst (λ (o : Option (List ℕ)). HasDriver b o s.driver_at []) (sym own) refl) taken x
 
-pub root_header_refused : (b : Array) (e : Bounds) (s : Superblock) (stop : Stop) → Spells s (super_bytes_of b e) → e.own ≡ None → IfSome (refusal_of stop) (IsHeaderRefused b e (super_block s ∷ []) s.root.header_at)
+pub root_header_refused : (b : Array) (e : Bounds) (s : Superblock) (stop : Stop) → Spells s (super_bytes_of b e) → e.own ≡ None → AreTaken e [] (super_block s ∷ [])
+    → IfSome (refusal_of stop) (IsHeaderRefused b e (super_block s ∷ []) s.root.header_at)
     → IfSome (refusal_of stop) (IsFileRefused b e)
-root_header_refused b e s stop spelled own x =
-    if_some (refusal_of stop) (IsHeaderRefused b e (super_block s ∷ []) s.root.header_at) (IsFileRefused b e) (λ r y. root_refused b e s r spelled own (InHeader y)) x
+root_header_refused b e s stop spelled own taken x =
+    if_some (refusal_of stop) (IsHeaderRefused b e (super_block s ∷ []) s.root.header_at) (IsFileRefused b e) (λ r y. root_refused b e s r spelled own taken (RootHeader y)) x
+
+-- a group has a symbol table message
+has_table : (ms : List Met) (tree heap : ℕ) → IsGroupHeader ms tree heap → has 0x11 ms ≡ true
+has_table ms tree heap g = ap is_some g.first
 
 root_below_refused : (b : Array) (e : Bounds) (s : Superblock) (head tree heap : ℕ) (bs : List Block) (stop : Stop) → Spells s (super_bytes_of b e) → e.own ≡ None
+    → AreTaken e [] (super_block s ∷ []) → AreTaken e (super_block s ∷ []) bs
     → (f : IsFound b s.root.header_at (header.Known (node.Group head tree heap)) bs) → IfSome (refusal_of stop) (IsGroupRefused b e (ks_of s) 32 1 (super_block s ∷ bs) tree heap) → IfSome (refusal_of stop) (IsFileRefused b e)
-root_below_refused b e s head tree heap bs stop spelled own f x =
-    if_some (refusal_of stop) (IsGroupRefused b e (ks_of s) 32 1 (super_block s ∷ bs) tree heap) (IsFileRefused b e) (λ r y. root_refused b e s r spelled own (go r y)) x
-  where
-    go : (r : Refusal) → IsGroupRefused b e (ks_of s) 32 1 (super_block s ∷ bs) tree heap r → IsRefusedWith (IsObjectRefused b e (ks_of s) 32) b e (ks_of s) 0 (super_block s ∷ []) s.root.header_at r
-    go r (inl y) = InTable f.0 f.1 tree heap f.2 f.3.1 (subst (λ (l : List Block). IsTableRefused b e (ks_of s) (super_block s ∷ l) tree heap r) f.4 y)
-    go r (inr (fs, index, links, y)) =
-        let g : GroupAt = record { header_at = s.root.header_at; tree_at = tree; heap_at = heap; own = bs ++ index } in
-        let group : IsGroup b (ks_of s) g fs = record { prefix = f.0; parts = f.1; header = f.2; table = f.3.1; index = index; links = links; blocks = ap (λ (l : List Block). l ++ index) f.4 } in
-        InLinks g fs refl group y
+root_below_refused b e s head tree heap bs stop spelled own first taken f x =
+    if_some (refusal_of stop) (IsGroupRefused b e (ks_of s) 32 1 (super_block s ∷ bs) tree heap) (IsFileRefused b e)
+    (λ r y. root_refused b e s r spelled own first (InGroup f.0 f.1 (was_read b e (super_block s ∷ []) bs s.root.header_at f.0 f.1 f.2 f.4 f.5 taken) (has_table (messages_of f.1) tree heap f.3.1)
+    (group_below b e (ks_of s) 32 0 1 s.root.header_at tree heap (super_block s ∷ []) bs r (omega arith) taken (f.0, f.1, f.2, f.3.1, f.3.0, f.4, f.5) refl y))) x
 
 pub root_kind_refused : (b : Array) (e : Bounds) (s : Superblock) (n : Node) (bs : List Block)
-    → Spells s (super_bytes_of b e) → table_of n ≡ None → IsFound b s.root.header_at (header.Known n) bs
+    → Spells s (super_bytes_of b e) → e.own ≡ None → AreTaken e [] (super_block s ∷ [])
+    → AreTaken e (super_block s ∷ []) bs → table_of n ≡ None → IsFound b s.root.header_at (header.Known n) bs
     → IsFileRefused b e (Unsupported what.Root)
-root_kind_refused b e s n bs spelled none f =
-    NoGroup s f.0 f.1 spelled f.2 (no_table (messages_of f.1) s.root.header_at n none f.3) refl
+root_kind_refused b e s n bs spelled own first taken none f =
+    root_refused b e s (Unsupported what.Root) spelled own first
+    (NoGroup f.0 f.1 (was_read b e (super_block s ∷ []) bs s.root.header_at f.0 f.1 f.2 f.4 f.5 taken)
+    (no_table (messages_of f.1) s.root.header_at n none f.3) refl)
 
-pub root_later_refused : (b : Array) (e : Bounds) (s : Superblock) (bs : List Block) → Spells s (super_bytes_of b e) → IsFound b s.root.header_at header.Later bs → IsFileRefused b e (Unsupported what.Header)
-root_later_refused b e s bs spelled f = LaterRoot s spelled f.0 refl
+pub root_later_refused : (b : Array) (e : Bounds) (s : Superblock) (bs : List Block) → Spells s (super_bytes_of b e) → e.own ≡ None → AreTaken e [] (super_block s ∷ [])
+    → AreTaken e (super_block s ∷ []) bs → IsFound b s.root.header_at header.Later bs → IsFileRefused b e (Unsupported what.Header)
+root_later_refused b e s bs spelled own first taken f =
+    root_refused b e s (Unsupported what.Header) spelled own first
+    (LaterRoot (subst (AreTaken e (super_block s ∷ [])) f.1 taken) f.0 refl)
 
 -- a file that is held isn't refused
 pub never_stopped : (b : Array) (e : Bounds) (s : Superblock) (g : GroupAt) (ls : FullLinks) (h : HoldsFull b e s g ls) (stop : Stop) → IsWithinLimits b (all_blocks s h.driver (Group g ls)) (Group g ls)
@@ -338,18 +350,20 @@ all_sound view mid new b ks s n tree heap told (Ok kept) table fits super sound 
 all_sound view mid new b ks s n tree heap told (Err stop) table fits super sound below = tt
 
 pub all_refused : {V T : Type 0} (view : V → SpaceView) (old mid : Blocks V) (v w : SpaceView) (s : Superblock) (n : Node)
-    (tree heap : ℕ) (r : Result T Stop) → v ≡ w
+    (tree heap : ℕ) (r : Result T Stop) → v ≡ w → v ≡ view (space_of mid)
     → Spells s (super_bytes_of v.array (bounds_of v None)) → Keeps view old (super_block s ∷ [])
     → table_of n ≡ Some (record { tree_at = tree; heap_at = heap })
     → RootFound view old mid v.array s.root.header_at n
     → IfErr r (λ stop. (met : List Block) (own : Option (List ℕ)) → Keeps view mid met
     → IfSome (refusal_of stop) (IsGroupRefused w.array (bounds_of w own) (ks_of s) 32 1 met tree heap))
     → IfErr r (λ stop. IfSome (refusal_of stop) (IsFileRefused v.array (bounds_of v None)))
-all_refused view old mid v w s n tree heap (Ok kept) same spelled taken table first x = tt
-all_refused view old mid v w s n tree heap (Err stop) same spelled taken table first x =
+all_refused view old mid v w s n tree heap (Ok kept) same here spelled taken table first x = tt
+all_refused view old mid v w s n tree heap (Err stop) same here spelled taken table first x =
     let (head, is) = group_node n tree heap table in
     let (bs, found, keeps) = subst (RootFound view old mid v.array s.root.header_at) is first (super_block s ∷ []) taken in
     let y = subst (λ (a : SpaceView). IfSome (refusal_of stop)
     (IsGroupRefused a.array (bounds_of a None) (ks_of s) 32 1 (super_block s ∷ bs) tree heap)) (sym same)
     (x (super_block s ∷ bs) None keeps) in
-    root_below_refused v.array (bounds_of v None) s head tree heap bs stop spelled refl found y
+    let first' = taken_over view mid v [] (super_block s ∷ bs) None here keeps in
+    root_below_refused v.array (bounds_of v None) s head tree heap bs stop spelled refl
+    (taken_first (bounds_of v None) [] (super_block s ∷ []) bs first') (taken_over view mid v (super_block s ∷ []) bs None here keeps) found y

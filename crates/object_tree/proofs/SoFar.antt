@@ -2,9 +2,11 @@
 use Rattle.std.proofs.Common.{◌≡◌, ℕ, ◌+◌, ◌≤◌, List, length, [], ◌∷◌, ◌++◌, map, Option, IfSome, refl, sym, ◌∙◌, ap, subst, arith, inl, inr}
 use Rattle.std.proofs.lemmas.List.{append_assoc, append-nil, map-append}
 use Rattle.outside.specs.Array.{Array}
-use Rattle.outside.specs.Blocks.{Block}
+use Rattle.outside.specs.Blocks.{Block, Bounds, AreTaken}
+use Rattle.outside.proofs.Taken.{taken_first, taken_rest}
 use Rattle.outside.specs.Space.{SpaceView, bounds_of}
-use Rattle.block_space.specs.Blocks.{Keeps}
+use Rattle.block_space.specs.Blocks.{Keeps, space_of}
+use Rattle.block_space.proofs.Taken.{taken_over}
 use Rattle.block_space.specs.declared.blocks.Blocks.{Blocks}
 use Rattle.h5_base.specs.declared.refusal.Stop.{Stop}
 use Rattle.h5_base.specs.Refusals.{refusal_of}
@@ -14,7 +16,7 @@ use Rattle.file_model.specs.Groups.{Ks, Found}
 use Rattle.file_model.specs.Holds.{LeafAt, DataLeaf, SoftLeaf, OtherLeaf, Full, FullLinks, AreHeld, IsHeld, founds, blocks_in, blocks_of, target_of as full_target}
 use Rattle.file_model.specs.Limits.{Fits, AllFit, depth_in, depth_to, objects_of as full_objects, objects_in, leaf_objects}
 use Rattle.h5_base.specs.declared.refusal.Refusal.{Refusal}
-use Rattle.file_model.specs.RefusedTree.{RefusedObject, IsTargetRefused, AreLinksRefused, IsObjectRefused}
+use Rattle.file_model.specs.RefusedTree.{RefusedObject, IsTargetRefused, AreLinksRefused, IsObjectRefused, WasOpened}
 use Rattle.group_reader.specs.declared.link.FoundLink.{FoundLink}
 use Rattle.group_reader.specs.Links.{found_of, target_of}
 use Rattle.tree_nodes.specs.declared.node.Node.{Node}
@@ -145,31 +147,48 @@ so_far_more view old mid new b c ks levels kls ys x t same first next met keeps 
 -- ---- refusals
 
 -- a refusal behind links that were read
-refused_later : (Refused : RefusedObject) (b : Array) (ks : Ks) (objects : ℕ) (met : List Block) (ls : FullLinks) (fs : List Found) (r : Refusal) → AreHeld b ks ls
-    → AreLinksRefused Refused b ks (objects + objects_in ls) (met ++ blocks_in ls) fs r → AreLinksRefused Refused b ks objects met (founds ls ++ fs) r
-refused_later Refused b ks objects met Empty fs r h x =
+pub refused_later : (Refused : RefusedObject) (b : Array) (e : Bounds) (ks : Ks) (levels objects : ℕ) (met : List Block) (ls : FullLinks) (fs : List Found) (r : Refusal)
+    → AreHeld b ks ls → AllFit b ls → depth_in ls ≤ levels → objects + objects_in ls ≤ 65536 → AreTaken e met (blocks_in ls)
+    → AreLinksRefused Refused b e ks levels (objects + objects_in ls) (met ++ blocks_in ls) fs r → AreLinksRefused Refused b e ks levels objects met (founds ls ++ fs) r
+refused_later Refused b e ks levels objects met Empty fs r held fit depth few taken x =
     let none : objects + 0 ≡ objects = omega arith in
-    subst (λ (n : ℕ). AreLinksRefused Refused b ks n met fs r) none (subst (λ (l : List Block). AreLinksRefused Refused b ks (objects + 0) l fs r) (append-nil met) x)
-refused_later Refused b ks objects met (Link n t rest) fs r h x =
+    subst (λ (n : ℕ). AreLinksRefused Refused b e ks levels n met fs r) none (subst (λ (l : List Block). AreLinksRefused Refused b e ks levels (objects + 0) l fs r) (append-nil met) x)
+refused_later Refused b e ks levels objects met (Link n t rest) fs r held fit depth few taken x =
     let count : objects + (full_objects t + objects_in rest) ≡ (objects + full_objects t) + objects_in rest = omega arith in
-    let x' = subst (λ (k : ℕ). AreLinksRefused Refused b ks k (met ++ (blocks_of t ++ blocks_in rest)) fs r) count x in
-    let x'' = subst (λ (l : List Block). AreLinksRefused Refused b ks ((objects + full_objects t) + objects_in rest) l fs r) (sym (append_assoc met (blocks_of t) (blocks_in rest))) x' in
-    inr (t, h.0, refl, refused_later Refused b ks (objects + full_objects t) (met ++ blocks_of t) rest fs r h.1 x'')
+    let x' = subst (λ (k : ℕ). AreLinksRefused Refused b e ks levels k (met ++ (blocks_of t ++ blocks_in rest)) fs r) count x in
+    let x'' = subst (λ (l : List Block). AreLinksRefused Refused b e ks levels ((objects + full_objects t) + objects_in rest) l fs r) (sym (append_assoc met (blocks_of t) (blocks_in rest))) x' in
+    let opened : WasOpened b e ks levels objects met t = record {
+      held = held.0;
+      taken = taken_first e met (blocks_of t) (blocks_in rest) taken;
+      depth = omega (arith, depth);
+      few = omega (arith, few);
+      fits = fit.0;
+    } in
+    inr (
+      t,
+      opened,
+      refl,
+      refused_later Refused b e ks levels (objects + full_objects t) (met ++ blocks_of t) rest fs r held.1 fit.1 (omega (arith, depth)) (omega (arith, few))
+          (taken_rest e met (blocks_of t) (blocks_in rest) taken) x'',
+    )
 
 pub refused_next : {V : Type 0} (view : V → SpaceView) (old mid : Blocks V) (v w : SpaceView) (ks : Ks) (levels : ℕ) (before now : ObjectTree) (key : ℕ) (kls : KeyedLinks) (items ys : List FoundLink) (x : FoundLink) (rest : List FoundLink)
-    (stop : Stop) → v ≡ w → items ≡ ys ++ x ∷ rest → Grows before now key kls → SoFar view old mid v.array ks levels kls (map found_of ys)
+    (stop : Stop) → v ≡ w → v ≡ view (space_of mid) → object_count now ≤ 65536 → items ≡ ys ++ x ∷ rest → Grows before now key kls → SoFar view old mid v.array ks levels kls (map found_of ys)
     → ((met : List Block) (own : Option (List ℕ)) → Keeps view mid met → IfSome (refusal_of stop) (IsTargetRefused (IsObjectRefused w.array (bounds_of w own) ks levels) (object_count now) met (target_of x.target)))
-    → (met : List Block) (own : Option (List ℕ)) → Keeps view old met → IfSome (refusal_of stop) (AreLinksRefused (IsObjectRefused v.array (bounds_of v own) ks levels) v.array ks (object_count before) met (map found_of items))
-refused_next view old mid v w ks levels before now key kls items ys x rest stop same is grows first next met own keeps =
+    → (met : List Block) (own : Option (List ℕ)) → Keeps view old met
+    → IfSome (refusal_of stop) (AreLinksRefused (IsObjectRefused v.array (bounds_of v own) ks levels) v.array (bounds_of v own) ks levels (object_count before) met (map found_of items))
+refused_next view old mid v w ks levels before now key kls items ys x rest stop same here most is grows first next met own keeps =
     let (ls, opened, fs, kept) = first met keeps in
-    let Refused : RefusedObject = IsObjectRefused v.array (bounds_of v own) ks levels in
+    let e = bounds_of v own in
+    let Refused : RefusedObject = IsObjectRefused v.array e ks levels in
     let h : IfSome (refusal_of stop) (IsTargetRefused Refused (object_count now) (met ++ blocks_in ls) (target_of x.target)) =
     subst (λ (a : SpaceView). IfSome (refusal_of stop) (IsTargetRefused (IsObjectRefused a.array (bounds_of a own) ks levels) (object_count now) (met ++ blocks_in ls) (target_of x.target))) (sym same) (next (met ++ blocks_in ls) own kept) in
     let count : object_count now ≡ object_count before + objects_in ls = grows.objects ∙ ap (λ (k : ℕ). object_count before + k) (counts_same kls ls opened.same) in
     let list : founds ls ++ map found_of (x ∷ rest) ≡ map found_of items = ap (λ (l : List Found). l ++ map found_of (x ∷ rest)) fs ∙ sym (map-append found_of ys (x ∷ rest)) ∙ ap (map found_of) (sym is) in
-    if_some (refusal_of stop) (IsTargetRefused Refused (object_count now) (met ++ blocks_in ls) (target_of x.target)) (AreLinksRefused Refused v.array ks (object_count before) met (map found_of items))
-    (λ r y. subst (λ (l : List Found). AreLinksRefused Refused v.array ks (object_count before) met l r) list
-    (refused_later Refused v.array ks (object_count before) met ls (map found_of (x ∷ rest)) r opened.held
+    if_some (refusal_of stop) (IsTargetRefused Refused (object_count now) (met ++ blocks_in ls) (target_of x.target)) (AreLinksRefused Refused v.array e ks levels (object_count before) met (map found_of items))
+    (λ r y. subst (λ (l : List Found). AreLinksRefused Refused v.array e ks levels (object_count before) met l r) list
+    (refused_later Refused v.array e ks levels (object_count before) met ls (map found_of (x ∷ rest)) r opened.held opened.fit opened.depth (omega (arith, count, most))
+    (taken_over view mid v met (blocks_in ls) own here kept)
     (inl (subst (λ (k : ℕ). IsTargetRefused Refused k (met ++ blocks_in ls) (target_of x.target) r) count y)))) h
 
 -- the names with one more ascend, and are those of the links with one more

@@ -2,7 +2,7 @@
 -- Cited by the steps of `open_tree`.
 use Rattle.std.specs.Prelude.{◌≡◌, ◌≢◌, ◌⊎◌, true, ℕ, ◌+◌, ◌≤◌, List, [], ◌++◌, Option, Some, None}
 use Rattle.outside.specs.Array.{Array}
-use Rattle.outside.specs.Blocks.{Block, Bounds}
+use Rattle.outside.specs.Blocks.{Block, Bounds, AreTaken}
 use Rattle.object_model.specs.Tree.{Name, AreOrdered}
 use Rattle.header_codec.specs.declared.types.Prefix.{Prefix}
 use Rattle.file_model.specs.Headers.{Part, IsHeader, header_blocks, messages_of}
@@ -10,7 +10,8 @@ use Rattle.file_model.specs.Objects.{IsGroupHeader}
 use Rattle.file_model.specs.Groups.{Ks, Found, Target, Header, HasLinks}
 use Rattle.file_model.specs.Holds.{LeafAt, Full, FullLinks, IsHeld, AreHeld, IsLeafHeld, leaf_target, leaf_blocks}
 use Rattle.file_model.specs.Holds.{target_of as full_target}
-use Rattle.file_model.specs.Limits.{most_header, header_bytes, LeafFits, Fits, AllFit, depth_to, depth_in}
+use Rattle.file_model.specs.Limits.{most_header, header_bytes, IsSmallHeap, LeafFits, Fits, AllFit, depth_to}
+use Rattle.file_model.specs.Limits.{depth_in}
 use Rattle.h5_base.specs.declared.refusal.Refusal.{Refusal}
 use Rattle.file_model.specs.RefusedGroups.{IsTableRefused}
 use Rattle.file_model.specs.RefusedTree.{IsObjectRefused, AreLinksRefused}
@@ -64,8 +65,9 @@ pub record AreOpened (b : Array) (ks : Ks) (levels : ℕ) (links : KeyedLinks) (
 abbrev pub IsGroupRefused : Array → Bounds → Ks → (levels objects : ℕ) → List Block → (tree heap : ℕ) → Refusal → Type 0
 IsGroupRefused b e ks levels objects met tree heap r =
     IsTableRefused b e ks met tree heap r
-    ⊎ ((fs : List Found) × (index : List Block) × HasLinks b ks tree heap fs index
-    × AreLinksRefused (IsObjectRefused b e ks levels) b ks objects (met ++ index) fs r)
+    ⊎ ((fs : List Found) × (index : List Block) × HasLinks b ks tree heap fs index × AreTaken e met index
+    × IsSmallHeap b heap
+    × AreLinksRefused (IsObjectRefused b e ks levels) b e ks levels objects (met ++ index) fs r)
 
 -- What stands under a key has one link more, in its place; what it leads to is new, with all below it.
 pub record Adds (old new : ObjectTree) (key : ℕ) (name : Name) (t : Keyed) : Type 0 where

@@ -42,11 +42,13 @@ pub(crate) fn read_node<V: Space>(
     ensures sound { IfOk result IsSoundNode }
     ensures refused { IsTrue V.tells → IfErr result (λ stop. (levels : ℕ) → Refuses V.view blocks.old (λ e met.
         IsRefusedWith (IsObjectRefused (array_of V.view blocks.old) e ks levels) (array_of V.view blocks.old) e ks
-        objects met at) stop) }
+        levels objects met at) stop) }
     ensures alike { V.Alike (space_of blocks.old) (space_of blocks.new) }
     ensures listed { OnOk result ((met : List Block) × Keeps V.view blocks.new met) }
     ensures failed { IsErrOf result Stop.Failed
         → OneRose (V.faults (space_of blocks.old)) (V.faults (space_of blocks.new)) }
+    ensures calm { ¬ IsErrOf result Stop.Failed
+        → V.faults (space_of blocks.new) ≡ V.faults (space_of blocks.old) }
 {
     if objects >= MOST_OBJECTS {
         return Err(Stop::Refused {
@@ -78,15 +80,17 @@ fn adopt_data<V: Space>(
         → (own : List Block) × IsNodeFound (array_of V.view blocks.old) ks at node.now own
         × Keeps V.view blocks.new (met ++ own)) }
     ensures refused { IsTrue V.tells → IfErr result
-        (λ stop. (at levels objects : ℕ) (met bs : List Block) (own : Option (List ℕ))
+        (λ stop. (at levels objects : ℕ) (met bs : List Block) (own : Option (List ℕ)) → objects < most_objects
         → IsFound (array_of V.view blocks.old) at (Header.Known node.now) bs → Keeps V.view blocks.old (met ++ bs)
         → IfSome (refusal_of stop) (IsRefusedWith
         (IsObjectRefused (array_of V.view blocks.old) (bounds_of (V.view (space_of blocks.old)) own) ks levels)
-        (array_of V.view blocks.old) (bounds_of (V.view (space_of blocks.old)) own) ks objects met at)) }
+        (array_of V.view blocks.old) (bounds_of (V.view (space_of blocks.old)) own) ks levels objects met at)) }
     ensures alike { V.Alike (space_of blocks.old) (space_of blocks.new) }
     ensures listed { OnOk result ((met : List Block) × Keeps V.view blocks.new met) }
     ensures failed { IsErrOf result Stop.Failed
         → OneRose (V.faults (space_of blocks.old)) (V.faults (space_of blocks.new)) }
+    ensures calm { ¬ IsErrOf result Stop.Failed
+        → V.faults (space_of blocks.new) ≡ V.faults (space_of blocks.old) }
 {
     match elements_of(node) {
         Some(elements) => adopt_storage(alloc, blocks, elements, ks.chunk),

@@ -52,6 +52,8 @@ fn read_superblock<V: Space>(alloc: Global, blocks: &mut Blocks<V>) -> Result<Su
     ensures alike { V.Alike (space_of blocks.old) (space_of blocks.new) }
     ensures failed { IsErrOf result Stop.Failed
         → OneRose (V.faults (space_of blocks.old)) (V.faults (space_of blocks.new)) }
+    ensures calm { ¬ IsErrOf result Stop.Failed
+        → V.faults (space_of blocks.new) ≡ V.faults (space_of blocks.old) }
 {
     let len = 100u64.min(blocks.space().end(MemClass::Super)) as usize;
     let bytes = match blocks.read_bytes(alloc, 0, len) {
@@ -90,6 +92,8 @@ fn open_root<V: Space>(
     ensures listed { OnOk result ((met : List Block) × Keeps V.view blocks.new met) }
     ensures failed { IsErrOf result Stop.Failed
         → OneRose (V.faults (space_of blocks.old)) (V.faults (space_of blocks.new)) }
+    ensures calm { ¬ IsErrOf result Stop.Failed
+        → V.faults (space_of blocks.new) ≡ V.faults (space_of blocks.old) }
 {
     match read_header(alloc, blocks, superblock.root.header_at) {
         Ok(Header::Known { node }) => match table_of(&node) {
@@ -129,6 +133,8 @@ fn open_below<V: Space>(
     ensures listed { OnOk result ((met : List Block) × Keeps V.view blocks.new met) }
     ensures failed { IsErrOf result Stop.Failed
         → OneRose (V.faults (space_of blocks.old)) (V.faults (space_of blocks.new)) }
+    ensures calm { ¬ IsErrOf result Stop.Failed
+        → V.faults (space_of blocks.new) ≡ V.faults (space_of blocks.old) }
 {
     let ks = superblock.k_values();
     let tree = match ObjectTree::empty(alloc, superblock, root) {
@@ -174,6 +180,8 @@ pub fn open_tree<V: Space>(alloc: Global, blocks: &mut Blocks<V>) -> Result<Obje
     ensures listed { OnOk result ((met : List Block) × Keeps V.view blocks.new met) }
     ensures failed { IsErrOf result Stop.Failed
         → OneRose (V.faults (space_of blocks.old)) (V.faults (space_of blocks.new)) }
+    ensures calm { ¬ IsErrOf result Stop.Failed
+        → V.faults (space_of blocks.new) ≡ V.faults (space_of blocks.old) }
 {
     match read_superblock(alloc, blocks) {
         Ok(superblock) => open_root(alloc, blocks, superblock),

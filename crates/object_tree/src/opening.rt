@@ -50,6 +50,8 @@ fn open_object<V: Space>(
     ensures listed { OnOk result ((met : List Block) × Keeps V.view blocks.new met) }
     ensures failed { IsErrOf result Stop.Failed
         → OneRose (V.faults (space_of blocks.old)) (V.faults (space_of blocks.new)) }
+    ensures calm { ¬ IsErrOf result Stop.Failed
+        → V.faults (space_of blocks.new) ≡ V.faults (space_of blocks.old) }
 {
     if place.levels == 0 {
         return Err(Stop::Refused {
@@ -104,6 +106,8 @@ fn open_link<V: Space>(
     ensures listed { OnOk result ((met : List Block) × Keeps V.view blocks.new met) }
     ensures failed { IsErrOf result Stop.Failed
         → OneRose (V.faults (space_of blocks.old)) (V.faults (space_of blocks.new)) }
+    ensures calm { ¬ IsErrOf result Stop.Failed
+        → V.faults (space_of blocks.new) ≡ V.faults (space_of blocks.old) }
 {
     let FoundLink { name, target } = link;
     match target {
@@ -142,12 +146,14 @@ fn open_each<V: Space>(
     ensures few { OnOk result (object_count opening.new.tree ≤ most_objects) }
     ensures sound { OnOk result (HasSoundNodes opening.new.tree) }
     ensures refused { IsTrue V.tells → IfErr result (Refuses V.view blocks.old (λ e met. AreLinksRefused
-        (IsObjectRefused (array_of V.view blocks.old) e place.ks place.levels) (array_of V.view blocks.old) place.ks
-        (object_count opening.old.tree) met (map found_of links.items))) }
+        (IsObjectRefused (array_of V.view blocks.old) e place.ks place.levels) (array_of V.view blocks.old) e place.ks
+        place.levels (object_count opening.old.tree) met (map found_of links.items))) }
     ensures alike { V.Alike (space_of blocks.old) (space_of blocks.new) }
     ensures listed { OnOk result ((met : List Block) × Keeps V.view blocks.new met) }
     ensures failed { IsErrOf result Stop.Failed
         → OneRose (V.faults (space_of blocks.old)) (V.faults (space_of blocks.new)) }
+    ensures calm { ¬ IsErrOf result Stop.Failed
+        → V.faults (space_of blocks.new) ≡ V.faults (space_of blocks.old) }
 {
     for link in links {
         match open_link(alloc, blocks, opening, place, link) {
@@ -188,6 +194,8 @@ pub(crate) fn open_links<V: Space>(
     ensures listed { OnOk result ((met : List Block) × Keeps V.view blocks.new met) }
     ensures failed { IsErrOf result Stop.Failed
         → OneRose (V.faults (space_of blocks.old)) (V.faults (space_of blocks.new)) }
+    ensures calm { ¬ IsErrOf result Stop.Failed
+        → V.faults (space_of blocks.new) ≡ V.faults (space_of blocks.old) }
 {
     match read_links(
         alloc,

@@ -3,13 +3,13 @@ use Rattle.std.proofs.Common.{◌≡◌, ℕ, ◌+◌, ◌<◌, ◌≤◌, ◌==
 use Rattle.std.proofs.lemmas.Bool.Decides.{nat_tests}
 use Rattle.std.proofs.Math.Seq.{drop-length}
 use Rattle.std.proofs.lemmas.List.{append_assoc, append-nil, drop_more, length-append}
-use Rattle.outside.specs.Blocks.{Block, Bounds, AreKept, IsApart, most_blocks}
+use Rattle.outside.specs.Blocks.{Block, Bounds, AreKept, AreTaken, IsApart, most_blocks}
 use Rattle.node_codec.specs.declared.chunk_node.ChunkKey.{ChunkKey}
 use Rattle.node_codec.specs.declared.chunk_node.ChunkNode.{ChunkNode}
-use Rattle.file_model.specs.Chunks.{Chunk, Under, AreChildren, IsFrom, IsBelow}
+use Rattle.file_model.specs.Chunks.{Chunk, Under, AreAscending}
 use Rattle.h5_base.specs.declared.refusal.Refusal.{Refusal}
-use Rattle.file_model.specs.RefusedChunks.{RefusedChunks, AreTaken, AreOffsetsRefused, AreChunksRefused}
-use Rattle.storage_reader.specs.Nodes.{IsChildOf}
+use Rattle.file_model.specs.RefusedChunks.{RefusedChunks, AreOffsetsRefused, IsInPlace, AreChunksRefused}
+use Rattle.storage_reader.specs.Nodes.{AreChildren, IsChildOf}
 
 -- What was read of the first children: with the others' they are all children's, and as the others are refused, the
 -- children are.
@@ -96,12 +96,13 @@ module _ (Child : Under) (Refused : Bounds → RefusedChunks) (node : ℕ) (m : 
 
       module _ (here : List Chunk) (own : List Block) (child : Child k a here own) where
         -- the offsets under the next child are refused
-        pub offsets_refused : (e : Bounds) (met : List Block) (r : Refusal) → AreTaken e met bs → AreTaken e (met ++ bs) own → AreOffsetsRefused node (n == 0) k.offset l.offset (drop (n + 1) m.children) cs here r → AreChunksRefused e node Child (Refused e) true m.keys m.children [] met r
-        offsets_refused e met r taken more x = h.refused e met r taken (split_refused e cs (met ++ bs) r (inr (here, own, child, more, inl x)))
+        pub offsets_refused : (e : Bounds) (met : List Block) (r : Refusal) → AreTaken e met bs → AreTaken e (met ++ bs) own → AreAscending here
+            → AreOffsetsRefused node (n == 0) k.offset l.offset (drop (n + 1) m.children) cs here r → AreChunksRefused e node Child (Refused e) true m.keys m.children [] met r
+        offsets_refused e met r taken more ascending x = h.refused e met r taken (split_refused e cs (met ++ bs) r (inr (here, own, child, more, inl (ascending, x))))
 
         -- the next child is read
-        pub child_read : IsFrom (n == 0) k.offset here → IsBelow (drop (n + 1) m.children) l.offset here → AreRead Child Refused node m (n + 1) (cs ++ here) (bs ++ own)
-        child_read from below = record { held = held_on; refused = refused_on }
+        pub child_read : IsInPlace (n == 0) k.offset l.offset (drop (n + 1) m.children) cs here → AreRead Child Refused node m (n + 1) (cs ++ here) (bs ++ own)
+        child_read place = record { held = held_on; refused = refused_on }
           where
             rest : List ℕ
             rest = drop (n + 1) m.children
@@ -113,7 +114,7 @@ module _ (Child : Under) (Refused : Bounds → RefusedChunks) (node : ℕ) (m : 
             held_on later more x =
                 let y : AreChildren Child false (l ∷ ls) rest later more = subst (λ (t : Bool). AreChildren Child t (l ∷ ls) rest later more) (not_first n) (subst (λ (z : List ChunkKey). AreChildren Child (n + 1 == 0) z rest later more) next.high_is x) in
                 let z : AreChildren Child true m.keys m.children (cs ++ (here ++ later)) (bs ++ (own ++ more)) =
-                h.held (here ++ later) (own ++ more) (split (here ++ later) (own ++ more) (here, later, own, more, child, y, from, below, refl, refl)) in
+                h.held (here ++ later) (own ++ more) (split (here ++ later) (own ++ more) (here, later, own, more, child, y, place.from, place.below, refl, refl)) in
                 subst (λ (c : List Chunk). AreChildren Child true m.keys m.children c ((bs ++ own) ++ more)) (sym (append_assoc cs here later))
                 (subst (λ (b : List Block). AreChildren Child true m.keys m.children (cs ++ (here ++ later)) b) (sym (append_assoc bs own more)) z)
 
@@ -123,7 +124,7 @@ module _ (Child : Under) (Refused : Bounds → RefusedChunks) (node : ℕ) (m : 
                 subst (λ (t : Bool). AreChunksRefused e node Child (Refused e) t (l ∷ ls) rest (cs ++ here) (met ++ (bs ++ own)) r) (not_first n)
                 (subst (λ (z : List ChunkKey). AreChunksRefused e node Child (Refused e) (n + 1 == 0) z rest (cs ++ here) (met ++ (bs ++ own)) r) next.high_is x) in
                 let z = subst (λ (b : List Block). AreChunksRefused e node Child (Refused e) false (l ∷ ls) rest (cs ++ here) b r) (sym (append_assoc met bs own)) y in
-                h.refused e met r (taken_first e met bs own taken) (split_refused e cs (met ++ bs) r (inr (here, own, child, taken_then e met bs own taken, inr z)))
+                h.refused e met r (taken_first e met bs own taken) (split_refused e cs (met ++ bs) r (inr (here, own, child, taken_then e met bs own taken, inr (place, z))))
 
 -- the test for the last child
 pub not_last : (n count : ℕ) → n < count → (n + 1 == count) ≡ false → n + 1 < count

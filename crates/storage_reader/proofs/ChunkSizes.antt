@@ -1,5 +1,5 @@
 -- The bytes of a chunk, and the multiples of its sizes.
-use Rattle.std.proofs.Common.{◌≡◌, ℕ, zero, suc, ◌*◌, ◌%◌, ◌^◌, ◌<◌, ◌≤◌, List, [], ◌∷◌, length, take, get_or, refl, subst, ap, arith}
+use Rattle.std.proofs.Common.{◌≡◌, ℕ, zero, suc, ◌%◌, ◌^◌, ◌<◌, ◌≤◌, List, [], ◌∷◌, length, take, get_or, arith}
 use Rattle.dtype.specs.Products.{product, FitsFile}
 use Rattle.header_codec.specs.Layouts.{IsChunk}
 use Rattle.header_codec.proofs.SizeLaws.{product-some}

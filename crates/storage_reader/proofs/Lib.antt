@@ -4,5 +4,6 @@ pub mod Children
 pub mod Places
 pub mod Parts
 pub mod LeafRead
+pub mod Values
 pub mod NodeLaws
 pub mod StorageLaws

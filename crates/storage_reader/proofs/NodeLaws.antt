@@ -1,55 +1,40 @@
 -- A node of a chunk index and the nodes under it: held, or refused.
 use Rattle.std.proofs.Common.{◌≡◌, ℕ, zero, suc, ◌+◌, ◌-◌, ◌<◌, ◌==◌, true, List, [], ◌∷◌, ◌++◌, length, drop, Option, None, refl, sym, ◌∙◌, ap, subst, arith}
 use Rattle.outside.specs.Array.{Array}
-use Rattle.outside.specs.Blocks.{Block, Bounds}
-use Rattle.outside.specs.Blocks.{IsBlockRefused}
+use Rattle.outside.specs.Blocks.{Block, Bounds, AreTaken}
 use Rattle.h5_base.specs.declared.kinds.BlockKind.TheVariants.{Tree}
 use Rattle.h5_base.specs.declared.refusal.Refusal.{Refusal}
 use Rattle.h5_base.specs.declared.refusal.Refusal.TheVariants.{Malformed}
 use Rattle.node_codec.specs.declared.chunk_node.ChunkNode.{ChunkNode}
 use Rattle.node_codec.specs.declared.chunk_node.ChunkKey.{ChunkKey}
-use Rattle.file_model.specs.Chunks.{Chunk, Under, AreAscending, AreChildren, IsNode, IsStored}
-use Rattle.file_model.specs.RefusedChunks.{RefusedChunks, AreTaken, NodeBlock, NoNode, InChildren, chunk_level, AreOffsetsRefused, AreChunksRefused}
-use Rattle.storage_reader.specs.Ends.{AreSpanned, HaveEnds, IsInPlace, Spans}
-use Rattle.storage_reader.specs.Nodes.{AreUnder, IsChildOf, IsIndexAt, IsIndexRefused, IsNodeAt, IsUnderRefused, IsWholeIndex, child_at, refused_child, node_block}
+use Rattle.file_model.specs.Chunks.{Chunk, Under, AreAscending}
+use Rattle.file_model.specs.RefusedChunks.{RefusedChunks, NoNode, InChildren, chunk_level, AreOffsetsRefused, IsInPlace}
+use Rattle.storage_reader.specs.Ends.{AreSpanned, HaveEnds, Spans}
+use Rattle.storage_reader.specs.Nodes.{AreChildren, AreUnder, IsChildOf, IsIndexAt, IsIndexRefused, IsNodeAt, IsUnderRefused, IsWholeIndex, child_at, refused_child, node_block}
 use Rattle.storage_reader.specs.declared.ends.Ends.{Ends}
 use Rattle.storage_reader.specs.declared.form.Form.{Form}
+use Rattle.storage_reader.proofs.Values.{index_of, rooted}
 use Rattle.storage_reader.proofs.Children.{AreRead, none_read, all_read, child_read, offsets_refused}
 
 -- ---- a node and what stands under it
 
 module _ (b : Array) (f : Form) where
-  pub node_block_refused : (level at : ℕ) (e : Bounds) (met : List Block) (r : Refusal) → IsBlockRefused e met (node_block f at) Tree r → IsIndexRefused b f level at e met r
-  node_block_refused zero at e met r h = NodeBlock h
-  node_block_refused (suc level) at e met r h = NodeBlock h
-
   pub no_node : (level at : ℕ) (e : Bounds) (met xs : List Block) → AreTaken e met xs → xs ≡ node_block f at ∷ [] → ((n : ChunkNode) → IsNodeAt b f at n → n.level ≡ level → ⊥) → IsIndexRefused b f level at e met (Malformed at Tree)
-  no_node zero at e met xs taken block h = NoNode (subst (AreTaken e met) block taken) h refl
-  no_node (suc level) at e met xs taken block h = NoNode (subst (AreTaken e met) block taken) h refl
+  no_node level at e met xs taken block h = NoNode (subst (AreTaken e met) block taken) h refl
 
   -- a block spells one node
   pub other_level : (level at : ℕ) (n m : ChunkNode) → IsNodeAt b f at n → (n.level ≡ level → ⊥) → IsNodeAt b f at m → m.level ≡ level → ⊥
   other_level level at n m h other g is = other (ap (λ (x : ChunkNode). x.level) (h.value ∙ sym g.value) ∙ is)
 
-  in_children : (level at : ℕ) (n : ChunkNode) (e : Bounds) (met : List Block) (r : Refusal) → AreTaken e met (node_block f at ∷ []) → IsNodeAt b f at n → n.level ≡ level
-      → AreChunksRefused e at (child_at b f level) (refused_child b f level at e) true n.keys n.children [] (met ++ node_block f at ∷ []) r → IsIndexRefused b f level at e met r
-  in_children zero at n e met r taken spelled is h = InChildren n taken spelled is h
-  in_children (suc level) at n e met r taken spelled is h = InChildren n taken spelled is h
-
   pub children_stopped : (level at : ℕ) (n : ChunkNode) (e : Bounds) (met xs : List Block) (r : Refusal) → AreTaken e met xs → IsNodeAt b f at n → n.level ≡ level → xs ≡ node_block f at ∷ []
       → IsUnderRefused b f at n e (met ++ xs) r → IsIndexRefused b f level at e met r
   children_stopped level at n e met xs r taken spelled is block h =
       subst (λ (m : ℕ). IsIndexRefused b f m at e met r) is
-      (in_children n.level at n e met r (subst (AreTaken e met) block taken) spelled refl (subst (λ (l : List Block). IsUnderRefused b f at n e (met ++ l) r) block h))
-
-  index_of : (level at : ℕ) (cs : List Chunk) (bs : List Block) → IsNode b f.k f.rank level (child_at b f level) at cs bs → IsIndexAt b f level at cs bs
-  index_of zero at cs bs h = h
-  index_of (suc level) at cs bs h = h
+      (InChildren n (subst (AreTaken e met) block taken) spelled refl (subst (λ (l : List Block). IsUnderRefused b f at n e (met ++ l) r) block h))
 
   node_held : (level at : ℕ) (n : ChunkNode) (cs : List Chunk) (bs : List Block) → IsNodeAt b f at n → n.level ≡ level → AreUnder b f n cs bs → IsIndexAt b f level at cs (node_block f at ∷ bs)
   node_held level at n cs bs spelled is h =
-      subst (λ (m : ℕ). IsIndexAt b f m at cs (node_block f at ∷ bs)) is
-      (index_of n.level at cs (node_block f at ∷ bs) (record { node = n; spelled = spelled; level_is = refl; below = bs; children = h; blocks = refl }))
+      subst (λ (m : ℕ). IsIndexAt b f m at cs (node_block f at ∷ bs)) is (index_of b f at n cs bs spelled h)
 
   pub node_spans : (level at : ℕ) (n : ChunkNode) (ends : Option Ends) (xs bs : List Block) → IsNodeAt b f at n → n.level ≡ level → xs ≡ node_block f at ∷ [] → Spans (AreUnder b f n) ends bs → Spans (IsIndexAt b f level at) ends (xs ++ bs)
   node_spans level at n ends xs bs spelled is block h = record {
@@ -62,7 +47,7 @@ module _ (b : Array) (f : Form) where
   pub whole : (at : ℕ) (n : ChunkNode) (ends : Option Ends) (xs bs : List Block) → IsNodeAt b f at n → xs ≡ node_block f at ∷ [] → Spans (AreUnder b f n) ends bs → IsWholeIndex b f at (xs ++ bs)
   whole at n ends xs bs spelled block h =
       let s = node_spans n.level at n ends xs bs spelled refl block h in
-      (s.chunks, (n.level, s.part, s.spanned.ordered))
+      (s.chunks, rooted b f n.level at s.chunks (xs ++ bs) s.part s.spanned.ordered)
 
   pub root_level : (at : ℕ) (n : ChunkNode) → IsNodeAt b f at n → n.level ≡ chunk_level b f.k f.rank at
   root_level at n h = ap (λ (x : ChunkNode). x.level) h.value
@@ -71,7 +56,7 @@ module _ (b : Array) (f : Form) where
 
   -- under a node of level 0 stand chunks
   pub leaf_spans : (n : ChunkNode) (ends : Option Ends) (bs : List Block) → n.level ≡ 0 → (cs : List Chunk) × AreUnder b f n cs bs × AreAscending cs
-      → ((cs : List Chunk) (bs : List Block) → AreChildren (IsStored f.rank f.sizes) true n.keys n.children cs bs → HaveEnds ends cs) → Spans (AreUnder b f n) ends bs
+      → ((cs : List Chunk) (bs : List Block) → AreChildren (child_at b f 0) true n.keys n.children cs bs → HaveEnds ends cs) → Spans (AreUnder b f n) ends bs
   leaf_spans n ends bs is (cs, held, ordered) ends_of = record {
     chunks = cs;
     part = held;
@@ -84,7 +69,7 @@ module _ (b : Array) (f : Form) where
   -- under a node of another level stand nodes of the level below
   pub inner_child : (level : ℕ) (key : ChunkKey) (at : ℕ) (cs : List Chunk) (bs : List Block) → 0 < level → IsIndexAt b f (level - 1) at cs bs → child_at b f level key at cs bs
   inner_child zero key at cs bs some h = absurd (omega arith)
-  inner_child (suc level) key at cs bs some h = subst (λ (m : ℕ). IsIndexAt b f m at cs bs) (below level) h
+  inner_child (suc level) key at cs bs some h = subst (λ (m : ℕ). IsIndexAt b f m at cs bs) (below level) h key
 
   pub inner_refused : (level node : ℕ) (key : ChunkKey) (at : ℕ) (e : Bounds) (met : List Block) (r : Refusal) → 0 < level → IsIndexRefused b f (level - 1) at e met r → refused_child b f level node e met key at r
   inner_refused zero node key at e met r some h = absurd (omega arith)
@@ -109,7 +94,7 @@ module _ (b : Array) (f : Form) (node : ℕ) (m : ChunkNode) (some : 0 < m.level
         let y = place h.chunks x.chunks h.spanned x.spanned in
         record {
           chunks = h.chunks ++ x.chunks;
-          part = child_read (child_at b f m.level) (refused_child b f m.level node) node m n low high a at h.chunks xs h.part x.chunks ys (inner_child b f m.level low a x.chunks ys some x.part) y.from y.below;
+          part = child_read (child_at b f m.level) (refused_child b f m.level node) node m n low high a at h.chunks xs h.part x.chunks ys (inner_child b f m.level low a x.chunks ys some x.part) y;
           spanned = record { ordered = y.ordered; ends_are = joined h.chunks x.chunks h.spanned.ends_are x.spanned.ends_are };
         }
 
@@ -118,7 +103,7 @@ module _ (b : Array) (f : Form) (node : ℕ) (m : ChunkNode) (some : 0 < m.level
         → ((done cs : List Chunk) → AreSpanned before done → AreSpanned here cs → AreOffsetsRefused node (n == 0) low.offset high.offset (drop (n + 1) m.children) done cs (Malformed node Tree))
         → IsUnderRefused b f node m e met (Malformed node Tree)
     place_stopped e met taken more place =
-        offsets_refused (child_at b f m.level) (refused_child b f m.level node) node m n low high a at h.chunks xs h.part x.chunks ys (inner_child b f m.level low a x.chunks ys some x.part) e met (Malformed node Tree) taken more
+        offsets_refused (child_at b f m.level) (refused_child b f m.level node) node m n low high a at h.chunks xs h.part x.chunks ys (inner_child b f m.level low a x.chunks ys some x.part) e met (Malformed node Tree) taken more x.spanned.ordered
         (place h.chunks x.chunks h.spanned x.spanned)
 
   -- all nodes were read

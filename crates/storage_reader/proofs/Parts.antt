@@ -7,13 +7,12 @@ use Rattle.h5_base.specs.declared.refusal.Refusal.{Refusal}
 use Rattle.h5_base.specs.declared.refusal.Stop.{Stop}
 use Rattle.h5_base.specs.declared.refusal.Stop.TheVariants.{Failed}
 use Rattle.h5_base.specs.Refusals.{refusal_of}
-use Rattle.outside.specs.Blocks.{Block, Bounds, AllInside, AllSome}
+use Rattle.outside.specs.Blocks.{Block, Bounds, AllInside, AllSome, AreTaken}
 use Rattle.outside.specs.Space.{SpaceView, bounds_of}
 use Rattle.block_space.specs.Blocks.{Keeps, Refuses, Takes, space_of}
 use Rattle.block_space.specs.declared.blocks.Blocks.{Blocks}
 use Rattle.block_space.proofs.Apart.{contains_head, contains_tail}
 use Rattle.block_space.proofs.Stopped.{if_some}
-use Rattle.file_model.specs.RefusedChunks.{AreTaken}
 
 -- the stop that a `?` hands on
 pub handed : {T : Type 0} (r : Result T Stop) (stop : Stop) (P : Stop → Type 0) → IsErrAnd r (λ y. y ≡ stop) → P stop → IfErr r P
@@ -25,10 +24,6 @@ handed r stop P is h =
 pub failed_on : {T : Type 0} (r : Result T Stop) (stop : Stop) (P : Type 0) → IsErrAnd r (λ y. y ≡ stop) → (stop ≡ Failed → P) → IsErrOf r Failed → P
 failed_on (Ok x) stop P is f failed = absurd is
 failed_on (Err y) stop P is f failed = f (cc)
-
-all_some : (xs : List Block) → ((x : Block) → Contains xs x → 0 < x.len) → AllSome xs
-all_some [] h = tt
-all_some (x ∷ xs) h = (h x (contains_head x xs), all_some xs (λ y c. h y (contains_tail x xs y c)))
 
 module _ {V : Type 0} (view : V → SpaceView) where
   pub takes_none : (s : Blocks V) (P : List Block → Type 0) → P [] → Takes view s s P
@@ -57,14 +52,3 @@ module _ {V : Type 0} (view : V → SpaceView) where
       let e = bounds_of (view (space_of a)) own in
       if_some (refusal_of stop) (R e (met ++ x.0)) (Q e met) (λ r h. f met own x.0 r x.1 x.2 h)
       (subst (λ (v : SpaceView). IfSome (refusal_of stop) (R (bounds_of v own) (met ++ x.0))) (sym same) (refused (met ++ x.0) own x.2))
-
-  -- what is kept was taken
-  pub taken : (a b : Blocks V) (met xs : List Block) (own : Option (List ℕ)) → view (space_of a) ≡ view (space_of b) → Keeps view b (met ++ xs) → AreTaken (bounds_of (view (space_of a)) own) met xs
-  taken a b met xs own same keeps = record {
-    kept = record {
-      some = all_some (met ++ xs) keeps.lists.filled;
-      apart = keeps.lists.apart;
-      inside = subst (λ (v : SpaceView). AllInside (bounds_of v own) (met ++ xs)) (sym same) (keeps.inside own);
-    };
-    few = keeps.few;
-  }

@@ -3,8 +3,13 @@ use Rattle.std.proofs.Common.{◌≡◌, ℕ, ◌-◌, ◌<◌, Bool, true, fals
 use Rattle.std.proofs.lemmas.List.{append_assoc, length-drop}
 use Rattle.outside.specs.Blocks.{Block}
 use Rattle.node_codec.specs.declared.chunk_node.ChunkKey.{ChunkKey}
-use Rattle.file_model.specs.Chunks.{Chunk, AreAscending, AreChildren, IsStored, IsBelow, IsAtMost, IsAbove, comes_before}
+use Rattle.outside.specs.Array.{Array}
+use Rattle.file_model.specs.Index.{Bottom, Node}
+use Rattle.file_model.specs.Chunks.{Chunk, ChunkIndex, chunks_under, address_of, HasKey, IsIndex}
+use Rattle.file_model.specs.Chunks.{AreAscending, IsBelow, IsAtMost, IsAbove, comes_before}
 use Rattle.storage_reader.specs.Ends.{AreEnds}
+use Rattle.storage_reader.specs.Nodes.{AreChildren, child_at}
+use Rattle.storage_reader.specs.declared.form.Form.{Form}
 use Rattle.storage_reader.proofs.Orders.{at_most_all, above_all, above_last, joined, between}
 
 -- the key is at most all of them where it is at most the first
@@ -78,13 +83,23 @@ join_ends f l g m done cs h k = record {
   last_is = k.last_is;
 }
 
-stored_ends : (rank : ℕ) (sizes : List ℕ) (first : Bool) (keys : List ChunkKey) (a : ℕ) (rest : List ℕ) (cs : List Chunk) (bs : List Block) (k l : ChunkKey) → AreChildren (IsStored rank sizes) first keys (a ∷ rest) cs bs
+-- what stands at height 0 is one chunk
+chunk_is : (b : Array) (f : Form) (key : ChunkKey) (at : ℕ) (cs : List Chunk) (bs : List Block) → child_at b f 0 key at cs bs
+    → cs ≡ record { offset = key.offset; at = at } ∷ []
+chunk_is b f key at cs bs h = h.chunks ∙ go h.index h.stands h.behind h.address
+  where
+    go : (x : ChunkIndex) → IsIndex b f.k f.rank f.sizes 0 x → HasKey key x → address_of x ≡ at
+        → chunks_under x ≡ record { offset = key.offset; at = at } ∷ []
+    go (Bottom c) stands behind address = λ j. record { offset = (behind j).offset; at = address j } ∷ []
+    go (Node n xs) stands behind address = absurd stands
+
+stored_ends : (b : Array) (f : Form) (first : Bool) (keys : List ChunkKey) (a : ℕ) (rest : List ℕ) (cs : List Chunk) (bs : List Block) (k l : ChunkKey) → AreChildren (child_at b f 0) first keys (a ∷ rest) cs bs
     → k ≡ get_or keys 0 k → l ≡ get_or keys (length rest) l → AreEnds k.offset l.offset cs
-stored_ends rank sizes first [] a rest cs bs k l h low high = absurd h
-stored_ends rank sizes first (i ∷ []) a rest cs bs k l h low high = absurd h
-stored_ends rank sizes first (i ∷ j ∷ ks) a [] cs bs k l (here, later, own, more, child, others, from, below, cs_is, bs_is) low high =
+stored_ends b f first [] a rest cs bs k l h low high = absurd h
+stored_ends b f first (i ∷ []) a rest cs bs k l h low high = absurd h
+stored_ends b f first (i ∷ j ∷ ks) a [] cs bs k l (here, later, own, more, child, others, from, below, cs_is, bs_is) low high =
     let own_chunk : Chunk = record { offset = i.offset; at = a } in
-    let one : cs ≡ own_chunk ∷ [] = cs_is ∙ ap (λ (x : List Chunk). x ++ later) child.chunk ∙ ap (λ (x : List Chunk). own_chunk ∷ x) others.0 in
+    let one : cs ≡ own_chunk ∷ [] = cs_is ∙ ap (λ (x : List Chunk). x ++ later) (chunk_is b f i a here own child) ∙ ap (λ (x : List Chunk). own_chunk ∷ x) others.0 in
     record {
       head = own_chunk;
       tail = [];
@@ -95,10 +110,10 @@ stored_ends rank sizes first (i ∷ j ∷ ks) a [] cs bs k l (here, later, own, 
       finishes = one;
       last_is = ap (λ (x : ChunkKey). x.offset) (sym high);
     }
-stored_ends rank sizes first (i ∷ j ∷ ks) a (b ∷ rest) cs bs k l (here, later, own, more, child, others, from, below, cs_is, bs_is) low high =
+stored_ends b f first (i ∷ j ∷ ks) a (next_at ∷ rest) cs bs k l (here, later, own, more, child, others, from, below, cs_is, bs_is) low high =
     let own_chunk : Chunk = record { offset = i.offset; at = a } in
-    let next : AreEnds j.offset l.offset later = stored_ends rank sizes false (j ∷ ks) b rest later more j l others refl high in
-    let all : cs ≡ own_chunk ∷ later = cs_is ∙ ap (λ (x : List Chunk). x ++ later) child.chunk in
+    let next : AreEnds j.offset l.offset later = stored_ends b f false (j ∷ ks) next_at rest later more j l others refl high in
+    let all : cs ≡ own_chunk ∷ later = cs_is ∙ ap (λ (x : List Chunk). x ++ later) (chunk_is b f i a here own child) in
     record {
       head = own_chunk;
       tail = later;
@@ -110,12 +125,12 @@ stored_ends rank sizes first (i ∷ j ∷ ks) a (b ∷ rest) cs bs k l (here, la
       last_is = next.last_is;
     }
 
-pub leaf_ends : (rank : ℕ) (sizes : List ℕ) (keys : List ChunkKey) (children : List ℕ) (cs : List Chunk) (bs : List Block) (k l : ChunkKey) → AreChildren (IsStored rank sizes) true keys children cs bs → 0 < length children
+pub leaf_ends : (b : Array) (f : Form) (keys : List ChunkKey) (children : List ℕ) (cs : List Chunk) (bs : List Block) (k l : ChunkKey) → AreChildren (child_at b f 0) true keys children cs bs → 0 < length children
     → k ≡ get_or keys 0 k → l ≡ get_or keys (length children - 1) l → AreEnds k.offset l.offset cs
-leaf_ends rank sizes keys [] cs bs k l h some low high = absurd (omega arith)
-leaf_ends rank sizes keys (a ∷ rest) cs bs k l h some low high =
+leaf_ends b f keys [] cs bs k l h some low high = absurd (omega arith)
+leaf_ends b f keys (a ∷ rest) cs bs k l h some low high =
     let n : length (a ∷ rest) - 1 ≡ length rest = omega arith in
-    stored_ends rank sizes true keys a rest cs bs k l h low (subst (λ (m : ℕ). l ≡ get_or keys m l) n high)
+    stored_ends b f true keys a rest cs bs k l h low (subst (λ (m : ℕ). l ≡ get_or keys m l) n high)
 
 pub same_ends : (f g l m : List ℕ) (cs : List Chunk) → f ≡ g → l ≡ m → AreEnds f l cs → AreEnds g m cs
 same_ends f g l m cs first last h = subst (λ (x : List ℕ). AreEnds x m cs) first (subst (λ (x : List ℕ). AreEnds f x cs) last h)

@@ -1,5 +1,5 @@
 -- What is stored of a dataset, by what its layout tells.
-use Rattle.std.proofs.Common.{◌≡◌, ◌≢◌, ℕ, ◌*◌, ◌==◌, Bool, true, false, not, ◌&&◌, List, [], length, if◌then◌else◌, refl, sym, ◌∙◌, ap, subst, arith, inl, inr}
+use Rattle.std.proofs.Common.{◌≡◌, ◌≢◌, ℕ, ◌*◌, ◌==◌, Bool, true, false, not, ◌&&◌, List, [], length, if◌then◌else◌, refl, sym, ◌∙◌, ap, subst, arith}
 use Rattle.h5_base.specs.Fields.{undefined}
 use Rattle.outside.specs.Array.{Array}
 use Rattle.outside.specs.Blocks.{Block, Bounds, IsPlacedRefused, placed}
@@ -7,13 +7,12 @@ use Rattle.h5_base.specs.declared.kinds.BlockKind.TheVariants.{Raw}
 use Rattle.h5_base.specs.declared.refusal.Refusal.{Refusal}
 use Rattle.dtype.specs.Products.{product}
 use Rattle.dtype.specs.Types.{size_of}
-use Rattle.header_codec.specs.Layouts.{IsOfShape, SpellsLayout}
-use Rattle.header_codec.specs.Written.{IsLayout}
+use Rattle.header_codec.specs.Layouts.{IsOfShape}
 use Rattle.header_codec.specs.declared.types.Layout.{Layout}
 use Rattle.header_codec.specs.declared.types.Layout.TheVariants as layout
 use Rattle.file_model.specs.Objects.{DataInfo}
 use Rattle.file_model.specs.Chunks.{Chunk, IsIndexed, IsStoredBy, is_read}
-use Rattle.file_model.specs.RefusedChunks.{IsStorageRefused, RawBlock, InIndex, chunk_level, IsChunkIndexRefused}
+use Rattle.file_model.specs.RefusedChunks.{IsStorageRefused, RawBlock, InIndex, chunk_level, IsTreeRefused}
 use Rattle.storage_reader.specs.Elements.{AreOf}
 use Rattle.storage_reader.specs.Forms.{IsForm}
 use Rattle.storage_reader.specs.Nodes.{IsWholeIndex, IsWholeRefused}
@@ -62,9 +61,9 @@ module _ (b : Array) (k : ℕ) (i : DataInfo) (x : Elements) (of : AreOf i x) wh
 
       pub index_stopped : (e : Bounds) (met : List Block) (r : Refusal) → IsWholeRefused b f tree e met r → IsStorageRefused b e k i met r
       index_stopped e met r h = InIndex tree sizes (of.layout ∙ is) (reads ∙ on)
-          (subst (λ (n : ℕ). IsChunkIndexRefused b e k n sizes (chunk_level b k n tree) met tree r) same_rank
-          (subst (λ (s : List ℕ). IsChunkIndexRefused b e k f.rank s (chunk_level b k f.rank tree) met tree r) sizes_are
-          (subst (λ (n : ℕ). IsChunkIndexRefused b e n f.rank f.sizes (chunk_level b n f.rank tree) met tree r) k_is h)))
+          (subst (λ (n : ℕ). IsTreeRefused b e k n sizes (chunk_level b k n tree) met tree r) same_rank
+          (subst (λ (s : List ℕ). IsTreeRefused b e k f.rank s (chunk_level b k f.rank tree) met tree r) sizes_are
+          (subst (λ (n : ℕ). IsTreeRefused b e n f.rank f.sizes (chunk_level b n f.rank tree) met tree r) k_is h)))
 
   -- ---- one block
 

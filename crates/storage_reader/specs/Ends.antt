@@ -1,8 +1,8 @@
 -- The first and the last offset of a list of chunks.
 -- Cited by the functions that read a chunk index.
-use Rattle.std.specs.Prelude.{◌≡◌, ℕ, Bool, List, [], ◌∷◌, ◌++◌, Option, Some, None}
+use Rattle.std.specs.Prelude.{◌≡◌, ℕ, List, [], ◌∷◌, ◌++◌, Option, Some, None}
 use Rattle.outside.specs.Blocks.{Block}
-use Rattle.file_model.specs.Chunks.{Chunk, IsFrom, IsBelow, AreAscending}
+use Rattle.file_model.specs.Chunks.{Chunk, AreAscending}
 use Rattle.storage_reader.specs.declared.ends.Ends.{Ends}
 
 -- the chunks begin with one of this offset, and end with one of that
@@ -20,12 +20,6 @@ pub record AreEnds (first last : List ℕ) (cs : List Chunk) : Type 0 where
 abbrev pub HaveEnds : Option Ends → List Chunk → Type 0
 HaveEnds None cs = cs ≡ []
 HaveEnds (Some e) cs = AreEnds e.first e.last cs
-
--- The offsets under a child stand between the keys on both sides of it, and behind the offsets before them.
-pub record IsInPlace (first : Bool) (low high : List ℕ) (later : List ℕ) (done here : List Chunk) : Type 0 where
-  pub from : IsFrom first low here
-  pub below : IsBelow later high here
-  pub ordered : AreAscending (done ++ here)
 
 -- the chunks ascend, from the first to the last of these ends
 pub record AreSpanned (ends : Option Ends) (cs : List Chunk) : Type 0 where

@@ -2,10 +2,10 @@ ghost use Rattle.std.specs.Prelude.{◌≡◌, ◌+◌, ◌∷◌, [], List, IfE
 ghost use Rattle.outside.specs.Blocks.{Block};
 ghost use Rattle.block_space.specs.Blocks.{Refuses, Takes, array_of, space_of};
 ghost use Rattle.node_codec.specs.ChunkNodes.{FitsChunkNode};
-ghost use Rattle.file_model.specs.Chunks.{AreAscending, Chunk, IsStored, comes_before};
+ghost use Rattle.file_model.specs.Chunks.{AreAscending, Chunk, comes_before};
 ghost use Rattle.file_model.specs.RefusedChunks.{IsChunkRefused};
 ghost use Rattle.storage_reader.specs.Forms.{IsForm};
-ghost use Rattle.storage_reader.specs.Nodes.{AreUnder, IsUnderRefused};
+ghost use Rattle.storage_reader.specs.Nodes.{AreUnder, IsUnderRefused, child_at};
 
 use crate::child::child_of;
 use crate::ends::comes_before;
@@ -26,8 +26,8 @@ fn adopt_chunk<V: Space>(
     requires stands { V.Stands (space_of blocks.old) }
     requires form { IsForm form.now }
     requires rank { length key.now.offset ≡ form.now.rank }
-    ensures found { OnOk result (Takes V.view blocks.old blocks.new (IsStored form.now.rank form.now.sizes key.now at
-        (record { offset = key.now.offset; at = at } ∷ []))) }
+    ensures found { OnOk result (Takes V.view blocks.old blocks.new (child_at (array_of V.view blocks.old) form.now 0
+        key.now at (record { offset = key.now.offset; at = at } ∷ []))) }
     ensures refused { IfErr result (Refuses V.view blocks.old
         (λ e met r. IsChunkRefused e form.now.rank form.now.sizes node met key.now at r)) }
     ensures no_fault { ¬ IsErrOf result Stop.Failed }

@@ -1,10 +1,13 @@
 ghost use Rattle.std.specs.Prelude.{◌≡◌, ◌↔◌, ◌++◌, ◌+◌, ◌<◌, ◌==◌, ℕ, List, IsTrue, IfOk, drop, length, true, false};
+ghost use Rattle.outside.specs.Array.{Array};
 ghost use Rattle.outside.specs.Blocks.{Block};
 ghost use Rattle.h5_base.specs.declared.kinds.BlockKind.TheVariants.{Tree};
-ghost use Rattle.file_model.specs.Chunks.{Chunk, AreAscending, AreChildren, IsFrom, IsBelow, IsStored, comes_before};
+ghost use Rattle.file_model.specs.Chunks.{Chunk, AreAscending, IsFrom, IsBelow, comes_before};
 ghost use Rattle.h5_base.specs.declared.refusal.Refusal.TheVariants.{Malformed};
-ghost use Rattle.file_model.specs.RefusedChunks.{AreOffsetsRefused};
-ghost use Rattle.storage_reader.specs.Ends.{AreEnds, AreSpanned, HaveEnds, IsInPlace};
+ghost use Rattle.file_model.specs.RefusedChunks.{AreOffsetsRefused, IsInPlace};
+ghost use Rattle.storage_reader.specs.Ends.{AreEnds, AreSpanned, HaveEnds};
+ghost use Rattle.storage_reader.specs.Nodes.{AreChildren, child_at};
+ghost use Rattle.storage_reader.specs.declared.form.Form.{Form};
 
 use crate::child::Child;
 use dtype::Dims;
@@ -30,8 +33,8 @@ pub(crate) fn comes_before(a: &Dims, b: &Dims) -> bool
 // The ends of the chunks of a node of level 0.
 pub(crate) fn ends_of(alloc: Global, node: &ChunkNode) -> Result<Option<Ends>, NoMemory>
     requires more { length node.now.keys ≡ length node.now.children + 1 }
-    ensures { IfOk result (λ x. (rank : ℕ) (sizes : List ℕ) (cs : List Chunk) (bs : List Block)
-        → AreChildren (IsStored rank sizes) true node.now.keys node.now.children cs bs → HaveEnds x cs) }
+    ensures { IfOk result (λ x. (b : Array) (f : Form) (cs : List Chunk) (bs : List Block)
+        → AreChildren (child_at b f 0) true node.now.keys node.now.children cs bs → HaveEnds x cs) }
 {
     let keys = node.keys.as_slice();
     let count = node.children.len();

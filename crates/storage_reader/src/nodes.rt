@@ -35,6 +35,8 @@ fn take_node<V: Space>(
     ensures alike { V.Alike (space_of blocks.old) (space_of blocks.new) }
     ensures failed { IsErrOf result Stop.Failed
         → OneRose (V.faults (space_of blocks.old)) (V.faults (space_of blocks.new)) }
+    ensures calm { ¬ IsErrOf result Stop.Failed
+        → V.faults (space_of blocks.new) ≡ V.faults (space_of blocks.old) }
 {
     let size = chunk_node_size(form.k, form.rank);
     let bytes = blocks.adopt_bytes(alloc, at, size, BlockKind::Tree)?;
@@ -67,6 +69,8 @@ fn adopt_children<V: Space>(
     ensures listed { OnOk result ((met : List Block) × Keeps V.view blocks.new met) }
     ensures failed { IsErrOf result Stop.Failed
         → OneRose (V.faults (space_of blocks.old)) (V.faults (space_of blocks.new)) }
+    ensures calm { ¬ IsErrOf result Stop.Failed
+        → V.faults (space_of blocks.new) ≡ V.faults (space_of blocks.old) }
 {
     if node.level > 0 {
         return adopt_nodes(alloc, blocks, at, node, form);
@@ -97,6 +101,8 @@ fn adopt_nodes<V: Space>(
     ensures listed { OnOk result ((met : List Block) × Keeps V.view blocks.new met) }
     ensures failed { IsErrOf result Stop.Failed
         → OneRose (V.faults (space_of blocks.old)) (V.faults (space_of blocks.new)) }
+    ensures calm { ¬ IsErrOf result Stop.Failed
+        → V.faults (space_of blocks.new) ≡ V.faults (space_of blocks.old) }
 {
     let mut before = None;
     for i in 0..node.children.len() {
@@ -130,6 +136,8 @@ fn adopt_node<V: Space>(
     ensures listed { OnOk result ((met : List Block) × Keeps V.view blocks.new met) }
     ensures failed { IsErrOf result Stop.Failed
         → OneRose (V.faults (space_of blocks.old)) (V.faults (space_of blocks.new)) }
+    ensures calm { ¬ IsErrOf result Stop.Failed
+        → V.faults (space_of blocks.new) ≡ V.faults (space_of blocks.old) }
 {
     let node = take_node(alloc, blocks, at, form)?;
     if node.level != level {
@@ -156,6 +164,8 @@ pub(crate) fn adopt_index<V: Space>(
     ensures listed { OnOk result ((met : List Block) × Keeps V.view blocks.new met) }
     ensures failed { IsErrOf result Stop.Failed
         → OneRose (V.faults (space_of blocks.old)) (V.faults (space_of blocks.new)) }
+    ensures calm { ¬ IsErrOf result Stop.Failed
+        → V.faults (space_of blocks.new) ≡ V.faults (space_of blocks.old) }
 {
     let node = take_node(alloc, blocks, at, form)?;
     adopt_children(alloc, blocks, at, &node, form)?;

@@ -61,6 +61,8 @@ pub fn adopt_storage<V: Space>(
     ensures listed { OnOk result ((met : List Block) × Keeps V.view blocks.new met) }
     ensures failed { IsErrOf result Stop.Failed
         → OneRose (V.faults (space_of blocks.old)) (V.faults (space_of blocks.new)) }
+    ensures calm { ¬ IsErrOf result Stop.Failed
+        → V.faults (space_of blocks.new) ≡ V.faults (space_of blocks.old) }
 {
     match elements.layout {
         Layout::Contiguous { at, .. } => {

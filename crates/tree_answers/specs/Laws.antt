@@ -22,8 +22,8 @@ abbrev pub OpenedIs : Type 0
 OpenedIs = (b : Array) (e : Bounds) (kept : ObjectTree) → IsOpened b e kept → (t : Plain) → Holds b e t
     → IsTreeOf kept t
 
--- A tree that is sound is some tree of objects, whatever the space tells: so what is answered from it is the answer of a
--- step.
+-- A tree that is sound is some tree of objects, whatever the space tells: so what is answered from it is the answer of
+-- a step.
 abbrev pub SoundIs : Type 0
 SoundIs = (kept : ObjectTree) → IsSoundTree kept → (t : Plain) × IsTreeOf kept t
 

@@ -10,7 +10,7 @@ use Rattle.header_reader.proofs.reading.read_header.Goals as goal
 pub returns-then-is_later-clause-found : goal.returns-then-is_later-clause-found
 returns-then-is_later-clause-found g c =
     λ told met keeps. let v = g.V.Space.view c.args.blocks.now.space in
-    let first = first_seen v.array c.args.at c.first_len.result c.in_ok-first.first.items c.as_slice.result.now c.as_slice.ensures.value (c.in_ok-first.ensures.bytes told) c.first_len.ensures.whole c.first_len.ensures.most c.first_len.ensures.four in
+    let first = first_seen v.array c.args.at c.first_len.result c.in_ok-first.first.items c.as_slice.result.now c.as_slice.ensures.value (c.in_ok-first.ensures.bytes told) c.first_len.ensures.whole c.first_len.ensures.most c.first_len.ensures.four c.first_len.ensures.fits in
     let is = later_read v.array c.args.at c.first_len.result c.as_slice.result.now first (c.is_later.ensures.0 c.if-is_later.true) in
     (record { start = c.args.at; len = 4 } ∷ [], later_found v c.args.at is, c.in_ok-adopt.ensures.found met (c.read_bytes.ensures.kept met keeps))
 
@@ -19,7 +19,7 @@ returns-in_err-adopt-clause-refused g c =
     λ told. let v = g.V.Space.view c.args.blocks.now.space in
     let w = g.V.Space.view c.read_bytes.new.self.space in
     let same : v ≡ w = g.met.V.Space.alike _ _ c.read_bytes.ensures.alike in
-    let first = first_seen v.array c.args.at c.first_len.result c.in_ok-first.first.items c.as_slice.result.now c.as_slice.ensures.value (c.in_ok-first.ensures.bytes told) c.first_len.ensures.whole c.first_len.ensures.most c.first_len.ensures.four in
+    let first = first_seen v.array c.args.at c.first_len.result c.in_ok-first.first.items c.as_slice.result.now c.as_slice.ensures.value (c.in_ok-first.ensures.bytes told) c.first_len.ensures.whole c.first_len.ensures.most c.first_len.ensures.four c.first_len.ensures.fits in
     let is = later_read v.array c.args.at c.first_len.result c.as_slice.result.now first (c.is_later.ensures.0 c.if-is_later.true) in
     handed c.from_residual-in_err-adopt.result c.in_err-adopt.field-0.0 _ c.from_residual-in_err-adopt.ensures.1
     (λ met own keeps. if_some _ _ _ (λ r refused. later_refused v w own met c.args.at r same is refused) (c.in_err-adopt.ensures.refused met own (c.read_bytes.ensures.kept met keeps)))
@@ -29,7 +29,7 @@ returns-in-Some-clause-found g c =
     λ told. let v = g.V.Space.view c.args.blocks.now.space in
     let w = g.V.Space.view c.read_bytes.new.self.space in
     let same : v ≡ w = g.met.V.Space.alike _ _ c.read_bytes.ensures.alike in
-    let first = first_seen v.array c.args.at c.first_len.result c.in_ok-first.first.items c.as_slice-2.result.now c.as_slice-2.ensures.value (c.in_ok-first.ensures.bytes told) c.first_len.ensures.whole c.first_len.ensures.most c.first_len.ensures.four in
+    let first = first_seen v.array c.args.at c.first_len.result c.in_ok-first.first.items c.as_slice-2.result.now c.as_slice-2.ensures.value (c.in_ok-first.ensures.bytes told) c.first_len.ensures.whole c.first_len.ensures.most c.first_len.ensures.four c.first_len.ensures.fits in
     let prefix = prefix_read w.array c.args.at c.first_len.result c.as_slice-2.result.now c.in-Some.prefix (first_on v w c.args.at c.first_len.result c.as_slice-2.result.now same first) c.in-Some.ensures.found in
     found_same g.V.Space.view c.args.blocks.now c.read_bytes.new.self c.read_known.new.blocks c.args.at c.read_known.result same c.read_bytes.ensures.kept (c.read_known.ensures.found told prefix)
 
@@ -38,7 +38,7 @@ returns-in-Some-clause-refused g c =
     λ told. let v = g.V.Space.view c.args.blocks.now.space in
     let w = g.V.Space.view c.read_bytes.new.self.space in
     let same : v ≡ w = g.met.V.Space.alike _ _ c.read_bytes.ensures.alike in
-    let first = first_seen v.array c.args.at c.first_len.result c.in_ok-first.first.items c.as_slice-2.result.now c.as_slice-2.ensures.value (c.in_ok-first.ensures.bytes told) c.first_len.ensures.whole c.first_len.ensures.most c.first_len.ensures.four in
+    let first = first_seen v.array c.args.at c.first_len.result c.in_ok-first.first.items c.as_slice-2.result.now c.as_slice-2.ensures.value (c.in_ok-first.ensures.bytes told) c.first_len.ensures.whole c.first_len.ensures.most c.first_len.ensures.four c.first_len.ensures.fits in
     let prefix = prefix_read w.array c.args.at c.first_len.result c.as_slice-2.result.now c.in-Some.prefix (first_on v w c.args.at c.first_len.result c.as_slice-2.result.now same first) c.in-Some.ensures.found in
     refused_same g.V.Space.view c.args.blocks.now c.read_bytes.new.self c.args.at c.read_known.result same c.read_bytes.ensures.kept (c.read_known.ensures.refused told prefix)
 
@@ -49,7 +49,7 @@ returns-clause-refused g c =
     let same : v ≡ w = g.met.V.Space.alike _ _ c.read_bytes.ensures.alike in
     let keeps' = c.read_bytes.ensures.kept met keeps in
     let first : AreFirst v.array c.args.at c.first_len.result c.in_ok-first.first.items =
-    record { bytes = c.in_ok-first.ensures.bytes told; whole = c.first_len.ensures.whole; most = c.first_len.ensures.most; four = c.first_len.ensures.four } in
+    record { bytes = c.in_ok-first.ensures.bytes told; whole = c.first_len.ensures.whole; most = c.first_len.ensures.most; four = c.first_len.ensures.four; fits = c.first_len.ensures.fits } in
     let first' = first_on v w c.args.at c.first_len.result c.in_ok-first.first.items same first in
     if_some _ _ _
     (λ r why. refused_back v w own met c.args.at r same

@@ -1,6 +1,7 @@
-use Rattle.std.proofs.Common.{◌≡◌, ◌++◌, ℕ, List, Option, IfErr, IfSome, OnOk}
+use Rattle.std.proofs.Common.{◌≡◌, ◌++◌, ℕ, List, Option, IfErr, IfSome, OnOk, refl}
 use Rattle.std.specs.Prelude.{Result}
 use Rattle.block_space.proofs.Stopped.{if_err}
+use Rattle.block_space.proofs.Taken.{taken_over}
 use Rattle.object_tree.proofs.NodesFound.{keeps_joined, plain_found, info_at, info_of_elements, data_found}
 use Rattle.object_tree.proofs.NodesFound.{all_data_refused, on_ok_then}
 use Rattle.object_tree.proofs.nodes.adopt_data.Goals as goal
@@ -24,8 +25,9 @@ pub returns-in-Some-clause-refused : goal.returns-in-Some-clause-refused
 returns-in-Some-clause-refused g c = λ told.
     let e = c.in-Some.elements in
     let n = c.args.node.now in
-    if_err c.adopt_storage.result _ _ (λ stop refused at levels objects met bs own f keeps.
+    if_err c.adopt_storage.result _ _ (λ stop refused at levels objects met bs own few f keeps.
     let parts = c.in-Some.ensures.parts in
-    all_data_refused _ _ _ c.args.ks objects at n met bs e stop parts f
+    all_data_refused _ _ _ c.args.ks levels objects at n met bs e stop parts f few
+    (taken_over g.V.Space.view c.args.blocks.now _ met bs own refl keeps)
     (refused (info_at _ at n bs e parts f) (info_of_elements _ at n bs e parts f) (met ++ bs) own keeps))
     (c.adopt_storage.ensures.refused told)

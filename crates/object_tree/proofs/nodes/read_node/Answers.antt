@@ -1,4 +1,4 @@
-use Rattle.std.proofs.Common.{ap}
+use Rattle.std.proofs.Common.{ap, arith}
 use Rattle.outside.proofs.Causes.{one_later}
 use Rattle.outside.specs.Space.{SpaceView}
 use Rattle.block_space.specs.Blocks.{space_of}
@@ -27,9 +27,9 @@ returns-in-Err-adopt_data-clause-refused g c = λ told.
     let first = found_as g.V.Space.view c.args.blocks.now _ _ c.args.at c.in-Ok-Known.field-0
     (header.Known c.in-Ok-Known.node) c.in-Ok-Known.field-0-is (c.in-Ok-Known.ensures.found told) in
     refused_after g.V.Space.view c.args.blocks.now _ _ _ c.args.ks c.args.at c.args.objects c.in-Ok-Known.node
-    c.in-Err-adopt_data.stop same first (c.in-Err-adopt_data.ensures.refused told)
+    c.in-Err-adopt_data.stop same (omega (arith, c.if-objects-ge-MOST_OBJECTS.false)) first (c.in-Err-adopt_data.ensures.refused told)
 
 pub returns-in-Err-clause-refused : goal.returns-in-Err-clause-refused
 returns-in-Err-clause-refused g c = λ told levels met own keeps.
-    all_header_refused _ _ _ c.args.ks c.args.objects c.args.at met c.in-Err.stop
-    (c.in-Err.ensures.refused told met own keeps)
+    all_header_refused _ _ _ c.args.ks levels c.args.objects c.args.at met c.in-Err.stop
+    (omega (arith, c.if-objects-ge-MOST_OBJECTS.false)) (c.in-Err.ensures.refused told met own keeps)

@@ -2,6 +2,7 @@ use Rattle.std.proofs.Common.{None, [], ◌∷◌, refl, sym, ◌∙◌}
 use Rattle.outside.proofs.Causes.{one_later}
 use Rattle.outside.specs.Space.{bounds_of}
 use Rattle.block_space.specs.Blocks.{space_of}
+use Rattle.block_space.proofs.Taken.{taken_over}
 use Rattle.file_model.specs.RefusedTree.{super_block}
 use Rattle.header_reader.specs.declared.reading.Header.TheVariants as header
 use Rattle.object_tree.proofs.NodesFound.{found_as}
@@ -37,7 +38,7 @@ returns-in-Some-clause-refused g c = λ told spelled.
     c.in-Ok-Known.field-0-is (c.in-Ok-Known.ensures.found told) in
     let same = g.met.V.Space.alike _ _ c.in-Ok-Known.ensures.alike in
     all_refused g.V.Space.view c.args.blocks.now _ (g.V.Space.view (space_of c.args.blocks.now)) _ c.args.superblock
-    c.in-Ok-Known.node c.in-Some.table.tree_at c.in-Some.table.heap_at c.open_below.result same spelled
+    c.in-Ok-Known.node c.in-Some.table.tree_at c.in-Some.table.heap_at c.open_below.result same same spelled
     c.requires.taken (sym c.table_of.ensures ∙ c.in-Some.is) first (c.open_below.ensures.refused told)
 
 pub returns-in-Some-clause-failed : goal.returns-in-Some-clause-failed
@@ -54,8 +55,12 @@ returns-in-None-clause-refused g c = λ told spelled.
     let first = found_as g.V.Space.view c.args.blocks.now _ b c.args.superblock.root.header_at c.in-Ok-Known.field-0
     (header.Known c.in-Ok-Known.node) c.in-Ok-Known.field-0-is (c.in-Ok-Known.ensures.found told)
     (super_block c.args.superblock ∷ []) c.requires.taken in
-    rw c.unsupported.ensures (root_kind_refused b (bounds_of (g.V.Space.view (space_of c.args.blocks.now)) None) c.args.superblock
-    c.in-Ok-Known.node first.0 spelled (sym c.table_of.ensures ∙ c.in-None.is) first.1)
+    let v = g.V.Space.view (space_of c.args.blocks.now) in
+    let same = g.met.V.Space.alike _ _ c.in-Ok-Known.ensures.alike in
+    rw c.unsupported.ensures (root_kind_refused b (bounds_of v None) c.args.superblock c.in-Ok-Known.node first.0 spelled refl
+    (taken_over g.V.Space.view c.args.blocks.now v [] (super_block c.args.superblock ∷ []) None refl c.requires.taken)
+    (taken_over g.V.Space.view _ v (super_block c.args.superblock ∷ []) first.0 None same first.2)
+    (sym c.table_of.ensures ∙ c.in-None.is) first.1)
 
 pub returns-in-Ok-Later-clause-refused : goal.returns-in-Ok-Later-clause-refused
 returns-in-Ok-Later-clause-refused g c = λ told spelled.
@@ -63,11 +68,15 @@ returns-in-Ok-Later-clause-refused g c = λ told spelled.
     let first = found_as g.V.Space.view c.args.blocks.now _ b c.args.superblock.root.header_at c.in-Ok-Later.field-0
     header.Later c.in-Ok-Later.field-0-is (c.in-Ok-Later.ensures.found told) (super_block c.args.superblock ∷ [])
     c.requires.taken in
-    rw c.unsupported-in-Ok-Later.ensures (root_later_refused b
-    (bounds_of (g.V.Space.view (space_of c.args.blocks.now)) None) c.args.superblock first.0 spelled first.1)
+    let v = g.V.Space.view (space_of c.args.blocks.now) in
+    let same = g.met.V.Space.alike _ _ c.in-Ok-Later.ensures.alike in
+    rw c.unsupported-in-Ok-Later.ensures (root_later_refused b (bounds_of v None) c.args.superblock first.0 spelled refl
+    (taken_over g.V.Space.view c.args.blocks.now v [] (super_block c.args.superblock ∷ []) None refl c.requires.taken)
+    (taken_over g.V.Space.view _ v (super_block c.args.superblock ∷ []) first.0 None same first.2) first.1)
 
 pub returns-in-Err-clause-refused : goal.returns-in-Err-clause-refused
 returns-in-Err-clause-refused g c = λ told spelled.
     root_header_refused (g.V.Space.view (space_of c.args.blocks.now)).array
     (bounds_of (g.V.Space.view (space_of c.args.blocks.now)) None) c.args.superblock c.in-Err.stop spelled refl
+    (taken_over g.V.Space.view c.args.blocks.now _ [] (super_block c.args.superblock ∷ []) None refl c.requires.taken)
     (c.in-Err.ensures.refused told (super_block c.args.superblock ∷ []) None c.requires.taken)

@@ -23,6 +23,7 @@ pub open_each-loop-link-init : goal.open_each-loop-link-init
 open_each-loop-link-init g c = λ d. record {
   listed = d.requires.listed;
   alike = search rules;
+  calm = refl;
   few = d.requires.few;
   sound = d.requires.sound;
   left = search rules;
@@ -47,6 +48,7 @@ open_each-loop-link-preserved g c = λ d.
     record {
       listed = search rules;
       alike = g.V.Kept.transitive _ _ _ d.loop-link.invariant.alike d.in-Ok.ensures.alike;
+      calm = d.in-Ok.ensures.calm (λ failed. cc) ∙ d.loop-link.invariant.calm;
       few = search rules;
       sound = search rules;
       left = is ∙ sym (append_assoc d.loop-link.yielded (d.in-Some.link ∷ []) _);
@@ -69,7 +71,7 @@ open_each-returns-in-Err-clause-refused g c = λ d told.
     let o = d.loop-link.invariant.opened in
     let is = next_link d.args.links.items d.loop-link.yielded _ d.in-Some.link _ d.loop-link.invariant.left d.in-Some.ensures.steps.0 in
     let same = g.met.V.Space.alike _ _ d.loop-link.invariant.alike in
-    refused_next g.V.Space.view d.args.blocks.now d.loop-link.blocks _ _ d.args.place.ks d.args.place.levels d.args.opening.now.tree d.loop-link.opening.tree d.args.place.group.key o.0 d.args.links.items d.loop-link.yielded d.in-Some.link _ d.in-Err.stop same is o.1 (o.3 told) (d.in-Err.ensures.refused told)
+    refused_next g.V.Space.view d.args.blocks.now d.loop-link.blocks _ _ d.args.place.ks d.args.place.levels d.args.opening.now.tree d.loop-link.opening.tree d.args.place.group.key o.0 d.args.links.items d.loop-link.yielded d.in-Some.link _ d.in-Err.stop same same d.loop-link.invariant.few is o.1 (o.3 told) (d.in-Err.ensures.refused told)
 
 pub open_each-returns-in-Err-clause-alike : goal.open_each-returns-in-Err-clause-alike
 open_each-returns-in-Err-clause-alike g c = λ d. g.V.Kept.transitive _ _ _ d.loop-link.invariant.alike d.in-Err.ensures.alike
@@ -109,7 +111,7 @@ open_links-returns-in-Ok-clause-opened g c = λ d.
 pub open_links-returns-in-Ok-clause-refused : goal.open_links-returns-in-Ok-clause-refused
 open_links-returns-in-Ok-clause-refused g c = λ d told.
     let same = g.met.V.Space.alike _ _ d.in-Ok.ensures.alike in
-    each_refused g.V.Space.view d.args.blocks.now _ _ _ d.args.place.ks d.args.place.levels _ d.args.table.tree_at d.args.table.heap_at (map found_of d.in-Ok.links.items) d.open_each.result same
+    each_refused g.V.Space.view d.args.blocks.now _ _ _ d.args.place.ks d.args.place.levels _ d.args.table.tree_at d.args.table.heap_at (map found_of d.in-Ok.links.items) d.open_each.result same same
     (table_read g.V.Space.view d.args.blocks.now _ _ d.args.place.ks d.args.table.tree_at d.args.table.heap_at (map found_of d.in-Ok.links.items) (d.in-Ok.ensures.found told) (d.in-Ok.ensures.small told)) (d.open_each.ensures.refused told)
 
 pub open_object-returns-in-Err-clause-refused : goal.open_object-returns-in-Err-clause-refused
@@ -137,7 +139,7 @@ pub open_object-returns-in-Some-clause-refused : goal.open_object-returns-in-Som
 open_object-returns-in-Some-clause-refused g c = λ d told.
     let same = g.met.V.Space.alike _ _ d.in-Ok.ensures.alike in
     let table = sym d.table_of-table.ensures ∙ d.in-Some.is in
-    object_refused g.V.Space.view d.args.blocks.now _ _ _ d.args.place.ks d.args.place.levels _ _ d.args.at d.in-Some.table.tree_at d.in-Some.table.heap_at d.in-Ok.node d.open_links.result same (omega (arith, d.if-place-eq0.false)) table
+    object_refused g.V.Space.view d.args.blocks.now _ _ _ d.args.place.ks d.args.place.levels _ _ d.args.at d.in-Some.table.tree_at d.in-Some.table.heap_at d.in-Ok.node d.open_links.result same same (omega (arith, d.in-Ok.ensures.few, d.objects.ensures.count)) (omega (arith, d.if-place-eq0.false)) table
     (d.in-Ok-add.ensures.added.objects ∙ ap (λ k. object_count d.args.opening.now.tree + k) (table_object d.in-Ok.node d.in-Some.table.tree_at d.in-Some.table.heap_at table)) (d.in-Ok.ensures.found told) (d.open_links.ensures.refused told)
 
 pub open_link-returns-in-Ok-clause-sound : goal.open_link-returns-in-Ok-clause-sound

@@ -26,6 +26,7 @@ abbrev pub invariant-open_each-loop-link : goal.invariant-open_each-loop-link
 invariant-open_each-loop-link g l = record {
   listed : (met : List Block) × Keeps g.V.Space.view l.blocks met;
   alike : g.V.Kept.Alike (space_of l.fn.blocks) (space_of l.blocks);
+  calm : g.V.Space.faults (space_of l.blocks) ≡ g.V.Space.faults (space_of l.fn.blocks);
   few : object_count l.opening.tree ≤ 65536;
   sound : HasSoundNodes l.opening.tree;
   left : l.fn.links.items ≡ l.yielded ++ l.link-iterator.rest.items;

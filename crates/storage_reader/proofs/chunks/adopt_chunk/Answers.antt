@@ -4,8 +4,9 @@ use Rattle.dtype.specs.Products.{product}
 use Rattle.h5_base.specs.declared.kinds.BlockKind.TheVariants.{Raw}
 use Rattle.file_model.specs.RefusedChunks.{IsChunkRefused, WrongBytes, WrongOffset}
 use Rattle.storage_reader.proofs.ChunkSizes.{some_bytes}
-use Rattle.storage_reader.proofs.LeafRead.{taken_chunk, chunk_block}
-use Rattle.storage_reader.proofs.Parts.{handed, refuses_as, taken}
+use Rattle.storage_reader.proofs.LeafRead.{taken_chunk, chunk_block, chunk_stands}
+use Rattle.block_space.proofs.Taken.{taken}
+use Rattle.storage_reader.proofs.Parts.{handed, refuses_as}
 use Rattle.storage_reader.proofs.chunks.adopt_chunk.Goals as goal
 
 pub adopt-requires-clause-some : goal.adopt-requires-clause-some
@@ -44,11 +45,9 @@ returns-clause-found g c = λ met keeps.
     let block : Block = record { start = c.args.at; len = f.bytes } in
     let fits = c.are_multiples.ensures.0 c.if-not-are_multiples.false in (
       block ∷ [],
-      record {
+      chunk_stands _ f c.args.key.now c.args.at f.bytes c.requires.form.bytes_is (record {
         bytes = omega (arith, c.requires.form.bytes_is);
         multiples = rw (c.as_slice.ensures, c.as_slice-2.ensures, c.requires.rank) at fits;
-        chunk = refl;
-        block = ap (λ n. record { start = c.args.at; len = n } ∷ []) c.requires.form.bytes_is;
-      },
+      }),
       c.in_ok-adopt.ensures.found met keeps,
     )

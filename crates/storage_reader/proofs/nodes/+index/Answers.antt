@@ -1,4 +1,4 @@
-use Rattle.std.proofs.Common.{◌≡◌, ◌+◌, ◌-◌, ◌++◌, ◌∷◌, [], sym, subst, length, refl, arith}
+use Rattle.std.proofs.Common.{◌≡◌, ◌∙◌, ◌+◌, ◌-◌, ◌++◌, ◌∷◌, [], sym, subst, length, refl, arith}
 use Rattle.std.proofs.lemmas.Result.{IfOk-weaker}
 use Rattle.outside.specs.Space.{SpaceView, bounds_of}
 use Rattle.outside.proofs.Causes.{one_later}
@@ -9,7 +9,8 @@ use Rattle.storage_reader.specs.Ends.{Spans}
 use Rattle.storage_reader.specs.Nodes.{AreUnder, IsIndexAt, IsIndexRefused, IsUnderRefused, child_at, refused_child, node_block}
 use Rattle.storage_reader.proofs.Children.{child_refused}
 use Rattle.storage_reader.proofs.NodeLaws.{NodesRead, no_node, other_level, children_stopped, node_spans, leaf_spans, inner_refused, no_node_read, node_more, place_stopped, nodes_done}
-use Rattle.storage_reader.proofs.Parts.{handed, refuses_then, taken, takes_as, takes_none, takes_then}
+use Rattle.block_space.proofs.Taken.{taken}
+use Rattle.storage_reader.proofs.Parts.{handed, refuses_then, takes_as, takes_none, takes_then}
 use Rattle.storage_reader.proofs.nodes.+index.Goals as goal
 
 pub adopt_children-returns-clause-found : goal.adopt_children-returns-clause-found
@@ -20,9 +21,14 @@ adopt_children-returns-clause-found g t c = λ tells.
     let ends = c.in_ok-ends_of.field-0 in
     let level : n.level ≡ 0 = omega arith in
     takes_as g.V.Space.view c.args.blocks.now c.adopt_chunks.new.blocks (λ bs. (cs : _) × AreUnder b f n cs bs × AreAscending cs) (Spans (AreUnder b f n) ends) c.in_ok-adopt_chunks.ensures.found
-    (λ xs h. leaf_spans b f n ends xs level h (c.in_ok-ends_of.ensures f.rank f.sizes))
+    (λ xs h. leaf_spans b f n ends xs level h (c.in_ok-ends_of.ensures b f))
 
 -- ---- a node
+
+pub adopt_node-returns-in_err-node-clause-refused : goal.adopt_node-returns-in_err-node-clause-refused
+adopt_node-returns-in_err-node-clause-refused g t c = λ tells.
+    handed c.from_residual.result c.in_err-node.field-0.0 _ c.from_residual.ensures.1
+    (c.in_err-node.ensures.refused tells c.args.level)
 
 pub adopt_node-returns-then-node-level-clause-refused : goal.adopt_node-returns-then-node-level-clause-refused
 adopt_node-returns-then-node-level-clause-refused g t c = λ tells met own keeps.
@@ -70,6 +76,7 @@ adopt_nodes-loop-i-init g t c = record {
   read = λ tells. takes_none g.V.Space.view c.args.blocks.now _ (no_node_read _ _ _ _);
   alike = g.V.Kept.reflexive _;
   listed = c.requires.listed;
+  calm = refl;
 }
 
 pub adopt_nodes-returns-in_err-here-clause-refused : goal.adopt_nodes-returns-in_err-here-clause-refused
@@ -128,6 +135,7 @@ adopt_nodes-loop-i-preserved g t c =
           (c.if-not-is_in_place.ensures.yes refl) c.join-before.ensures);
       alike = g.V.Kept.transitive _ _ _ c.loop-i.invariant.alike c.adopt_node.ensures.alike;
       listed = c.in_ok-here.ensures.listed;
+      calm = c.in_ok-here.ensures.calm (λ failed. cc) ∙ c.loop-i.invariant.calm;
     }
 
 pub adopt_nodes-returns-clause-found : goal.adopt_nodes-returns-clause-found

@@ -1,4 +1,4 @@
-use Rattle.std.proofs.Common.{◌+◌, ◌*◌, List, IsTrue}
+use Rattle.std.proofs.Common.{◌≡◌, ◌+◌, ◌*◌, List, IsTrue}
 use Rattle.outside.specs.Blocks.{Block}
 use Rattle.block_space.specs.Blocks.{Keeps, Takes, array_of, space_of}
 use Rattle.storage_reader.specs.Ends.{Spans}
@@ -22,4 +22,5 @@ invariant-adopt_nodes-loop-i g l = record {
       (Spans (AreRead (child_at (array_of g.V.Space.view l.initial.blocks) l.form l.node.level) (refused_child (array_of g.V.Space.view l.initial.blocks) l.form l.node.level l.fn.at) l.fn.at l.node l.i) l.before);
   alike : g.V.Kept.Alike (space_of l.initial.blocks) (space_of l.blocks);
   listed : (met : List Block) × Keeps g.V.Space.view l.blocks met;
+  calm : g.V.Space.faults (space_of l.blocks) ≡ g.V.Space.faults (space_of l.initial.blocks);
 }

@@ -6,8 +6,16 @@ use Rattle.file_model.specs.RefusedChunks.{chunk_level}
 use Rattle.storage_reader.specs.Ends.{Spans}
 use Rattle.storage_reader.specs.Nodes.{AreUnder, IsUnderRefused, IsWholeIndex, IsWholeRefused, node_block}
 use Rattle.storage_reader.proofs.NodeLaws.{children_stopped, whole, root_level}
-use Rattle.storage_reader.proofs.Parts.{failed_on, handed, refuses_then, taken, takes_then}
+use Rattle.block_space.proofs.Taken.{taken}
+use Rattle.storage_reader.proofs.Parts.{failed_on, handed, refuses_then, takes_then}
 use Rattle.storage_reader.proofs.nodes.adopt_index.Goals as goal
+
+pub returns-in_err-node-clause-refused : goal.returns-in_err-node-clause-refused
+returns-in_err-node-clause-refused g c = λ tells.
+    let b = array_of g.V.Space.view c.args.blocks.now in
+    let f = c.args.form.now in
+    handed c.from_residual.result c.in_err-node.field-0.0 _ c.from_residual.ensures.1
+    (c.in_err-node.ensures.refused tells (chunk_level b f.k f.rank c.args.at))
 
 pub returns-in_err-adopt_children-clause-refused : goal.returns-in_err-adopt_children-clause-refused
 returns-in_err-adopt_children-clause-refused g c = λ tells.

@@ -5,8 +5,10 @@ use Rattle.h5_base.specs.declared.kinds.BlockKind.TheVariants.{Tree}
 use Rattle.node_codec.specs.ChunkNodes.{SpellsChunkNode}
 use Rattle.block_space.specs.Blocks.{Keeps, array_of}
 use Rattle.storage_reader.specs.Nodes.{IsIndexRefused, node_block}
-use Rattle.storage_reader.proofs.NodeLaws.{no_node, node_block_refused}
-use Rattle.storage_reader.proofs.Parts.{handed, refuses_as, taken}
+use Rattle.file_model.specs.RefusedChunks.{NodeBlock}
+use Rattle.storage_reader.proofs.NodeLaws.{no_node}
+use Rattle.block_space.proofs.Taken.{taken}
+use Rattle.storage_reader.proofs.Parts.{handed, refuses_as}
 use Rattle.storage_reader.proofs.nodes.take_node.Goals as goal
 
 pub returns-in_err-bytes-clause-refused : goal.returns-in_err-bytes-clause-refused
@@ -16,7 +18,7 @@ returns-in_err-bytes-clause-refused g c = λ tells.
     let stop = c.in_err-bytes.field-0.0 in
     handed c.from_residual.result stop _ c.from_residual.ensures.1
     (λ level. refuses_as g.V.Space.view c.args.blocks.now (λ e met. IsBlockRefused e met (node_block f c.args.at) Tree) (IsIndexRefused b f level c.args.at) stop
-    (rw (← c.chunk_node_size-size.ensures) c.in_err-bytes.ensures.refused) (node_block_refused b f level c.args.at))
+    (rw (← c.chunk_node_size-size.ensures) c.in_err-bytes.ensures.refused) (λ e met r h. NodeBlock h))
 
 pub returns-in-Err-NotThis-clause-refused : goal.returns-in-Err-NotThis-clause-refused
 returns-in-Err-NotThis-clause-refused g c = λ tells level met own keeps.

@@ -15,7 +15,8 @@ table_seen v kept place o see seen is = sym (ap (λ (x : Firsts). x.table) see) 
 
 pub returns-in-Some-clause-made : goal.returns-in-Some-clause-made
 returns-in-Some-clause-made c =
-    λ ms h w. let table : Met = record { kind = 0x11; flags = c.in-Some.table.flags; body = c.in-Some.table.body } in
+    λ ms h w. let kept = c.in-Some.table in
+    let table : Met = record { kind = 0x11; flags = kept.flags; at = kept.at; body = kept.body } in
     group_made c.args.self.now ms c.args.header_at table c.group.result (table_seen (firsts_of c.self.inside) c.args.self.now c.self.inside.table (Some c.in-Some.table) c.self.view_is refl c.in-Some.is)
     (subst (λ (b : List ℕ). 16 ≤ length b → c.group.result ≡ node.Group c.args.header_at (u64_at b 0) (u64_at b 8)) c.as_slice.ensures c.group.ensures.made)
     h

@@ -9,7 +9,7 @@ use Rattle.header_reader.proofs.walk.Walk.meet_all.Given as goal
 abbrev pub invariant-messages : goal.invariant-messages
 invariant-messages g l = record {
   ms : List Met;
-  stand : Stand l.bytes 0 ms;
+  stand : Stand l.start l.bytes 0 ms;
   whole : AreWhole ms;
   here : l.place ≡ after 0 ms;
   within : l.place ≤ length l.bytes;

@@ -11,7 +11,15 @@ meet_all-requires-clause-stands g c = g.met.V.Space.alike_stands _ _ c.read_byte
 pub returns-clause-found : goal.returns-clause-found
 returns-clause-found g c =
     on_ok_weaker c.meet_all.result
-    (λ f. (f.0, λ told. subst (λ (bytes : List ℕ). AreMessages bytes c.args.self.now.wanted f.0) (c.as_slice.ensures.value ∙ c.in_ok-bytes.ensures.bytes told) f.1, f.1.whole, f.2, λ met keeps. f.3 met (c.read_bytes.ensures.kept met keeps)))
+    (λ f. (
+      f.0,
+      λ told.
+          subst (λ (bytes : List ℕ). AreMessages c.args.part.start bytes c.args.self.now.wanted f.0)
+          (c.as_slice.ensures.value ∙ c.in_ok-bytes.ensures.bytes told) f.1,
+      f.1.whole,
+      f.2,
+      λ met keeps. f.3 met (c.read_bytes.ensures.kept met keeps),
+    ))
     c.meet_all.ensures.found
 
 pub returns-clause-refused : goal.returns-clause-refused
