@@ -1,6 +1,6 @@
 -- `create plain=F`: what it leaves and prints, by how it ends. F is the file's name.
 -- Cited by `run` and by `create_file`.
-use Rattle.std.specs.Prelude.{◌≡◌, ℕ, ◌<◌, Bool, IsTrue, List, [], length, ◌++◌, codes}
+use Rattle.std.specs.Prelude.{◌≡◌, ℕ, ◌<◌, ◌≤◌, Bool, IsTrue, List, [], length, ◌++◌, codes}
 use Rattle.outside.specs.Files.{Files, RestsAt}
 use Rattle.outside.specs.Store.{GoesOver}
 use Rattle.empty_file.specs.Empty.{empty_file}
@@ -19,14 +19,15 @@ pub record IsMade (tells : Telling) (file : List ℕ) (before after : Moment) : 
       → RestsAt file empty_file after.leaves
 
 -- Where it is done, F is made and `created` is printed; where the output fails, the line may be cut short. A file that
--- isn't empty is refused. Where the store fails nothing is printed.
+-- isn't empty is refused. Where the store fails nothing is printed, and F is no longer than the empty HDF5 file.
 abbrev pub LeftByCreate : (tells : Telling) (file : List ℕ) (before after : Moment) (prints : Bool) (old new : List ℕ)
     → Ending → Type 0
 LeftByCreate tells file before after prints old new Done = IsMade tells file before after
     × (IsTrue prints → new ≡ old ++ codes "created\n")
 LeftByCreate tells file before after prints old new SomeNot = ⊥
 LeftByCreate tells file before after prints old new (Words fault) = ⊥
-LeftByCreate tells file before after prints old new Store = IsTrue prints → new ≡ old
+LeftByCreate tells file before after prints old new Store = (IsTrue prints → new ≡ old)
+    × (IsTrue tells.files → before.view.files file ≡ [] → length (after.view.files file) ≤ length empty_file)
 LeftByCreate tells file before after prints old new (Refused why) = (why ≡ Exists)
     × (IsTrue tells.files → 0 < length (before.view.files file))
 LeftByCreate tells file before after prints old new Input = ⊥

@@ -1,6 +1,6 @@
-ghost use Rattle.std.specs.Prelude.{◌≡◌, ◌<◌, ℕ, List, [], length, IsTrue, IsErr, IsErrOf, IfOk, OnOk, OnErr};
+ghost use Rattle.std.specs.Prelude.{◌≡◌, ◌<◌, ◌≤◌, ℕ, List, [], length, IsTrue, IsErr, IsErrOf, IfOk, OnOk, OnErr};
 ghost use Rattle.outside.specs.Files.{Files, RestsAt};
-ghost use Rattle.outside.specs.Store.{Goes, GoesOver, SomeRose};
+ghost use Rattle.outside.specs.Store.{Goes, GoesOver, SomeRose, NoneRose};
 ghost use Rattle.stack_mount.specs.Mounted.{IsOnlySeen};
 ghost use Rattle.empty_file.specs.Empty.{empty_file};
 ghost use Rattle.outside.specs.Causes.{Rose};
@@ -26,13 +26,14 @@ pub enum CreateStop {
 
 /// The id of a file that has to be empty.
 fn open_empty<S: Store>(store: &mut S, name: &Name) -> Result<FileId, CreateStop>
-    ensures seen { IsOnlySeen S.tells_files S.tells_images (S.view store.old) (S.view store.new) (S.leaves store.old)
-        (S.leaves store.new) (S.past store.old) (S.past store.new) }
+    ensures seen { IsOnlySeen S.tells_files S.tells_images name.now (S.view store.old) (S.view store.new)
+        (S.leaves store.old) (S.leaves store.new) (S.past store.old) (S.past store.new) }
     ensures id { IfOk result (λ id. (S.view store.new).names id.n ≡ name.now) }
     ensures empty { IsTrue S.tells_files → OnOk result ((S.view store.old).files name.now ≡ []) }
     ensures exists { IsTrue S.tells_files → IsErrOf result CreateStop.Exists
         → 0 < length ((S.view store.old).files name.now) }
     ensures failed { IsErrOf result CreateStop.Failed → SomeRose (S.view store.old) (S.view store.new) }
+    ensures calm { ¬ IsErrOf result CreateStop.Failed → NoneRose (S.view store.old) (S.view store.new) }
 {
     let _text = name.as_slice();
     let id = match store.file(name) {
@@ -58,7 +59,10 @@ fn write_empty<S: Store>(store: &mut S, id: FileId) -> Result<(), Failed>
         ((S.view store.new).files ((S.view store.old).names id.n) ≡ empty_file) }
     ensures durable { IsTrue S.tells_images → IsTrue S.tells_files → IsTrue (S.view store.old).honest
         → OnOk result (RestsAt ((S.view store.old).names id.n) empty_file (S.leaves store.new)) }
+    ensures short { IsTrue S.tells_files
+        → length ((S.view store.new).files ((S.view store.old).names id.n)) ≤ length empty_file }
     ensures failed { IsErr result → SomeRose (S.view store.old) (S.view store.new) }
+    ensures calm { OnOk result (NoneRose (S.view store.old) (S.view store.new)) }
 {
     let mut file = [0; EMPTY_LEN];
     write_empty_file(&mut file);
@@ -73,6 +77,8 @@ pub fn create<S: Store>(store: &mut S, name: &Name) -> Result<(), CreateStop>
     ensures durable { IsTrue S.tells_images → IsTrue S.tells_files → IsTrue (S.view store.old).honest
         → OnOk result (RestsAt name.now empty_file (S.leaves store.new)) }
     ensures was_empty { IsTrue S.tells_files → OnOk result ((S.view store.old).files name.now ≡ []) }
+    ensures short { IsTrue S.tells_files → (S.view store.old).files name.now ≡ []
+        → length ((S.view store.new).files name.now) ≤ length empty_file }
     ensures exists { IsTrue S.tells_files → IsErrOf result CreateStop.Exists
         → 0 < length ((S.view store.old).files name.now) }
     ensures kept { IsTrue S.tells_files → 0 < length ((S.view store.old).files name.now)
@@ -86,6 +92,7 @@ pub fn create<S: Store>(store: &mut S, name: &Name) -> Result<(), CreateStop>
     ensures memory_same { IsErrOf result CreateStop.NoMemory
         → SameFiles S.tells_files (S.view store.old) (S.view store.new) }
     ensures failed { IsErrOf result CreateStop.Failed → SomeRose (S.view store.old) (S.view store.new) }
+    ensures calm { ¬ IsErrOf result CreateStop.Failed → NoneRose (S.view store.old) (S.view store.new) }
 {
     let _text = name.as_slice();
     let id = open_empty(store, name)?;
@@ -106,6 +113,8 @@ pub fn create_file<S: Store, O: Sink>(file: &Name, store: S, out: &mut O) -> Per
     ensures silent { IfNothingDone result.ending (out.new ≡ out.old) }
     ensures store_fault { result.ending ≡ Ending.Store → SomeRose (S.view store) (S.view result.store) }
     ensures output_fault { result.ending ≡ Ending.Output → Rose (O.faults out.old) (O.faults out.new) }
+    ensures store_calm { ¬ (result.ending ≡ Ending.Store) → NoneRose (S.view store) (S.view result.store) }
+    ensures output_calm { ¬ (result.ending ≡ Ending.Output) → O.faults out.new ≡ O.faults out.old }
 {
     let mut store = store;
     let ending = match create(&mut store, file) {

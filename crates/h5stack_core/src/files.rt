@@ -1,6 +1,6 @@
 ghost use Rattle.std.specs.Prelude.{◌≡◌};
 ghost use Rattle.outside.specs.Causes.{Rose};
-ghost use Rattle.outside.specs.Store.{Goes, SomeRose};
+ghost use Rattle.outside.specs.Store.{Goes, SomeRose, NoneRose};
 ghost use Rattle.h5stack_core.specs.Endings.{IfNothingDone};
 ghost use Rattle.h5stack_core.specs.Files.{Opens, IsRefusedFile};
 ghost use Rattle.h5stack_core.specs.Script.{Runs};
@@ -39,6 +39,11 @@ pub fn run_file<S: Store, I: Source, O: Sink>(
     ensures store_fault { result.ending ≡ Ending.Store → SomeRose (S.view store) (S.view result.store) }
     ensures input_fault { result.ending ≡ Ending.Input → Rose (I.faults input.old) (I.faults input.new) }
     ensures output_fault { result.ending ≡ Ending.Output → Rose (O.faults out.old) (O.faults out.new) }
+    ensures store_calm { ¬ (result.ending ≡ Ending.Store) → NoneRose (S.view store) (S.view result.store) }
+    ensures input_calm { ¬ (result.ending ≡ Ending.Store) → ¬ (result.ending ≡ Ending.Input)
+        → I.faults input.new ≡ I.faults input.old }
+    ensures output_calm { ¬ (result.ending ≡ Ending.Store) → ¬ (result.ending ≡ Ending.Output)
+        → O.faults out.new ≡ O.faults out.old }
 {
     match mount(alloc, file, store) {
         Ok(space) => {

@@ -41,6 +41,8 @@ fn answer_lines<I: Source, O: Sink>(
     }) result }
     ensures input_fault { result ≡ Ending.Input → Rose (I.faults input.old) (I.faults input.new) }
     ensures output_fault { result ≡ Ending.Output → Rose (O.faults out.old) (O.faults out.new) }
+    ensures input_calm { ¬ (result ≡ Ending.Input) → I.faults input.new ≡ I.faults input.old }
+    ensures output_calm { ¬ (result ≡ Ending.Output) → O.faults out.new ≡ O.faults out.old }
     ensures input { I.faults input.old ≤ I.faults input.new }
     ensures output { O.faults out.old ≤ O.faults out.new }
     ensures run { IsOfScript result }
@@ -67,6 +69,8 @@ fn close<V: Space>(space: &mut V, ending: Ending) -> Ending
     ensures rested { V.Rests space.old → V.Rests space.new }
     ensures fault { result ≡ Ending.Store → (ending ≡ Ending.Store) ⊎ OneRose (V.faults space.old) (V.faults space.new)
         ⊎ OneRose (V.copy_faults space.old) (V.copy_faults space.new) }
+    ensures calm { ¬ (result ≡ Ending.Store) → (V.faults space.new ≡ V.faults space.old)
+        × (V.copy_faults space.new ≡ V.copy_faults space.old) }
 {
     match space.settle() {
         Ok(()) => ending,
@@ -100,6 +104,13 @@ pub fn look<V: Space, I: Source, O: Sink>(
         ⊎ OneRose (V.copy_faults space) (V.copy_faults result.space) }
     ensures input_fault { result.ending ≡ Ending.Input → Rose (I.faults input.old) (I.faults input.new) }
     ensures output_fault { result.ending ≡ Ending.Output → Rose (O.faults out.old) (O.faults out.new) }
+    // No fault is passed over; one of the store in the closing is told in place of another ending.
+    ensures store_calm { ¬ (result.ending ≡ Ending.Store) → (V.faults result.space ≡ V.faults space)
+        × (V.copy_faults result.space ≡ V.copy_faults space) }
+    ensures input_calm { ¬ (result.ending ≡ Ending.Store) → ¬ (result.ending ≡ Ending.Input)
+        → I.faults input.new ≡ I.faults input.old }
+    ensures output_calm { ¬ (result.ending ≡ Ending.Store) → ¬ (result.ending ≡ Ending.Output)
+        → O.faults out.new ≡ O.faults out.old }
     ensures goes { V.GoesOn space result.space }
     ensures array { IsTrue V.tells → (V.view result.space).array ≡ (V.view space).array }
     ensures ends { (V.view result.space).ends ≡ (V.view space).ends }

@@ -1,6 +1,6 @@
 ghost use Rattle.std.specs.Prelude.{◌≡◌, ◌⊎◌, ◌++◌, ℕ, List, IsTrue, Ok, Err};
 ghost use Rattle.outside.specs.Causes.{Rose};
-ghost use Rattle.outside.specs.Store.{Goes, SomeRose};
+ghost use Rattle.outside.specs.Store.{Goes, SomeRose, NoneRose};
 ghost use Rattle.h5stack_core.specs.Complete.{CanBeDone, IsCalm, IsNamed, IsScripted, IsToBeRefused};
 ghost use Rattle.h5stack_core.specs.Create.{Creates};
 ghost use Rattle.h5stack_core.specs.Endings.{EndsDone, EndsRefused, IfNothingDone, told};
@@ -44,6 +44,11 @@ fn perform<S: Store, I: Source, O: Sink>(
     ensures store_fault { result.ending ≡ Ending.Store → SomeRose (S.view store) (S.view result.store) }
     ensures input_fault { result.ending ≡ Ending.Input → Rose (I.faults input.old) (I.faults input.new) }
     ensures output_fault { result.ending ≡ Ending.Output → Rose (O.faults out.old) (O.faults out.new) }
+    ensures store_calm { ¬ (result.ending ≡ Ending.Store) → NoneRose (S.view store) (S.view result.store) }
+    ensures input_calm { ¬ (result.ending ≡ Ending.Store) → ¬ (result.ending ≡ Ending.Input)
+        → I.faults input.new ≡ I.faults input.old }
+    ensures output_calm { ¬ (result.ending ≡ Ending.Store) → ¬ (result.ending ≡ Ending.Output)
+        → O.faults out.new ≡ O.faults out.old }
     ensures same { IfNothingDone result.ending (SameFiles S.tells_files (S.view store) (S.view result.store)) }
     ensures silent { IfNothingDone result.ending (out.new ≡ out.old) }
     ensures unread { IfNothingDone result.ending (input.new ≡ input.old) }
@@ -104,6 +109,13 @@ pub fn run<S: Store, I: Source, O: Sink, E: Sink, C: Clock>(
     ensures store_fault { result.ending ≡ Ending.Store → SomeRose (S.view store) (S.view result.store) }
     ensures input_fault { result.ending ≡ Ending.Input → Rose (I.faults input.old) (I.faults input.new) }
     ensures output_fault { result.ending ≡ Ending.Output → Rose (O.faults out.old) (O.faults out.new) }
+    // And no fault is passed over: with any other ending no count of the store has changed, and those of the source
+    // and of the output only where a fault of the store in the closing is told in place of theirs.
+    ensures store_calm { ¬ (result.ending ≡ Ending.Store) → NoneRose (S.view store) (S.view result.store) }
+    ensures input_calm { ¬ (result.ending ≡ Ending.Store) → ¬ (result.ending ≡ Ending.Input)
+        → I.faults input.new ≡ I.faults input.old }
+    ensures output_calm { ¬ (result.ending ≡ Ending.Store) → ¬ (result.ending ≡ Ending.Output)
+        → O.faults out.new ≡ O.faults out.old }
 
     // What no ending may do: at most the file that the words name changes, no count falls, and ids stay. Where words or
     // files are refused, or there was no memory before anything was done, no file changes, nothing is printed, and the

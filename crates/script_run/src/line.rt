@@ -98,6 +98,7 @@ pub(crate) fn answer_line<O: Sink>(
     ensures no_input { IsErrOf result ScriptStop.Input → ⊥ }
     ensures no_limit { IsErrOf result ScriptStop.Limit → ⊥ }
     ensures output { IsErrOf result ScriptStop.Output → Rose (O.faults out.old) (O.faults out.new) }
+    ensures calm { ¬ IsErrOf result ScriptStop.Output → O.faults out.new ≡ O.faults out.old }
     ensures later { O.faults out.old ≤ O.faults out.new }
 {
     let Ok(reply) = reply_to(alloc, tree, line) else {

@@ -34,6 +34,9 @@ pub fn answer_script<I: Source, O: Sink>(
         → IsInPart O.tells t (I.left input.old) (O.written out.old) (O.written out.new) }
     ensures input { IsErrOf result ScriptStop.Input → Rose (I.faults input.old) (I.faults input.new) }
     ensures output { IsErrOf result ScriptStop.Output → Rose (O.faults out.old) (O.faults out.new) }
+    // No fault is passed over.
+    ensures input_calm { ¬ IsErrOf result ScriptStop.Input → I.faults input.new ≡ I.faults input.old }
+    ensures output_calm { ¬ IsErrOf result ScriptStop.Output → O.faults out.new ≡ O.faults out.old }
     ensures limit { IsTrue I.tells → IsErrOf result ScriptStop.Limit
         → length (I.left input.old) ≡ 2 ^ 32 + length (I.left input.new) }
     ensures input_later { I.faults input.old ≤ I.faults input.new }

@@ -49,8 +49,8 @@ loop-next-init g c = record {
   counted = λ told.
       let none : c.in-Ok.reader.taken ≡ 0 = ap (λ (r : Reading). r.taken) c.in-Ok.ensures in omega arith;
   read_all = λ told is. absurd (false≢true (sym (ap (λ (r : Reading). r.ended) c.in-Ok.ensures) ∙ is));
-  input_later = omega arith;
-  output_later = omega arith;
+  input_calm = refl;
+  output_calm = refl;
 }
 
 pub returns-in-Err-Failed-clause-stopped : goal.returns-in-Err-Failed-clause-stopped
@@ -80,8 +80,8 @@ loop-next-preserved g c = record {
       line_more _ t _ _ _ _ _ _ _ _ _ (c.loop-next.invariant.so_far told t is) n (c.in_ok-ended-in-Line.ensures.answered t is);
   counted = λ told. c.next.ensures.counted told ∙ c.loop-next.invariant.counted told;
   read_all = c.next.ensures.read_all;
-  input_later = omega (arith, c.loop-next.invariant.input_later, c.next.ensures.later);
-  output_later = omega (arith, c.loop-next.invariant.output_later, c.answer_line.ensures.later);
+  input_calm = c.next.ensures.calm (λ failed. let is = c.in-Ok-next.is in cc) ∙ c.loop-next.invariant.input_calm;
+  output_calm = c.in_ok-ended-in-Line.ensures.calm (λ failed. cc) ∙ c.loop-next.invariant.output_calm;
 }
 
 pub returns-in-Last-clause-answered : goal.returns-in-Last-clause-answered
@@ -139,7 +139,7 @@ returns-in_err-ended-in-Line-clause-input g c = λ e.
 pub returns-in_err-ended-in-Line-clause-output : goal.returns-in_err-ended-in-Line-clause-output
 returns-in_err-ended-in-Line-clause-output g c = λ e.
     let p = err_from_is_err_and c.from_residual.result c.from_residual.ensures.1 in
-    rose _ _ _ c.loop-next.invariant.output_later (c.answer_line.ensures.output (carried _ _ _ _ _ c.in_err-ended-in-Line.was p.1 p.2 e))
+    rose _ _ _ (omega (arith, c.loop-next.invariant.output_calm)) (c.answer_line.ensures.output (carried _ _ _ _ _ c.in_err-ended-in-Line.was p.1 p.2 e))
 
 pub returns-in_err-ended-in-Line-clause-limit : goal.returns-in_err-ended-in-Line-clause-limit
 returns-in_err-ended-in-Line-clause-limit g c = λ told e.
@@ -154,7 +154,7 @@ pub returns-in-Last-clause-input : goal.returns-in-Last-clause-input
 returns-in-Last-clause-input g c = λ e. absurd (c.answer_line-in-Last.ensures.no_input e)
 
 pub returns-in-Last-clause-output : goal.returns-in-Last-clause-output
-returns-in-Last-clause-output g c = λ e. rose _ _ _ c.loop-next.invariant.output_later (c.answer_line-in-Last.ensures.output e)
+returns-in-Last-clause-output g c = λ e. rose _ _ _ (omega (arith, c.loop-next.invariant.output_calm)) (c.answer_line-in-Last.ensures.output e)
 
 pub returns-in-Last-clause-limit : goal.returns-in-Last-clause-limit
 returns-in-Last-clause-limit g c = λ told e. absurd (c.answer_line-in-Last.ensures.no_limit e)

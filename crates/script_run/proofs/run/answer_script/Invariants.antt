@@ -11,8 +11,8 @@ invariant-loop-next g l = record {
       → SoFar g.O.Sink.tells t (g.I.Source.left l.fn.input) (l.reader.held ++ g.I.Source.left l.input) l.ended (g.O.Sink.written l.fn.out) (g.O.Sink.written l.out);
   counted : IsTrue g.I.Source.tells → l.reader.taken + length (g.I.Source.left l.input) ≡ length (g.I.Source.left l.fn.input);
   read_all : IsTrue g.I.Source.tells → HasReadAll l.reader (g.I.Source.left l.input);
-  input_later : g.I.Source.faults l.fn.input ≤ g.I.Source.faults l.input;
-  output_later : g.O.Sink.faults l.fn.out ≤ g.O.Sink.faults l.out;
+  input_calm : g.I.Source.faults l.input ≡ g.I.Source.faults l.fn.input;
+  output_calm : g.O.Sink.faults l.out ≡ g.O.Sink.faults l.fn.out;
 }
 
 abbrev pub decreases-loop-next : goal.decreases-loop-next
