@@ -4,6 +4,8 @@
 #[cfg(test)]
 mod answers;
 #[cfg(test)]
+mod blocks;
+#[cfg(test)]
 mod commands;
 #[cfg(test)]
 mod files;
@@ -15,6 +17,8 @@ mod lookups;
 mod memory;
 #[cfg(test)]
 mod nodes;
+#[cfg(test)]
+mod regions;
 #[cfg(test)]
 mod spaces;
 #[cfg(test)]
