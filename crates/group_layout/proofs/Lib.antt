@@ -1,0 +1,6 @@
+pub mod NameOrder
+pub mod RowLemmas
+pub mod RowsLemmas
+pub mod LeafLemmas
+pub mod BlockLemmas
+pub mod GroupLemmas

@@ -1,0 +1,31 @@
+//! Laws of rows of nodes. Each function does nothing: its clause is the law.
+
+ghost use Rattle.group_layout.specs.Laws.{LeavesInOrder, LeavesKept, RowAbove, RowsAbove, KeptAbove, RowsBlocks};
+ghost use Rattle.group_layout.specs.Laws.{GroupLaid};
+
+/// Symbol table nodes that are filled with links in order are a row in order, with these links.
+pub fn leaves_in_order()
+    ensures order { LeavesInOrder }
+    ensures kept { LeavesKept }
+{}
+
+/// Rows that are laid over a row in order are in order, and have the same links.
+pub fn rows_in_order()
+    ensures one { RowAbove }
+    ensures all { RowsAbove }
+{}
+
+/// Rows that are laid over a well kept row are well kept.
+pub fn rows_kept()
+    ensures { KeptAbove }
+{}
+
+/// Their blocks are those of the nodes at hand.
+pub fn rows_blocks()
+    ensures { RowsBlocks }
+{}
+
+/// Links that are laid over the nodes at hand are a group's, by an index in order.
+pub fn group_laid()
+    ensures { GroupLaid }
+{}

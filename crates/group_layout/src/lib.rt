@@ -1,0 +1,4 @@
+//! How the links of a group are laid over the nodes of its index.
+#![tactic(auto)]
+
+pub mod laws;
