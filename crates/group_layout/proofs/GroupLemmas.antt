@@ -54,7 +54,7 @@ group_laid b ks s base ats rows tree es fs text at_zero h o le leafs room spelle
     let top = uppermost 0 c rows tree keys xs in
     let high : 0 + length all_rows ≡ suc (length rows) = omega (arith, length-append rows ((tree ∷ []) ∷ [])) in
     let stand = subst (λ (ys : List GroupIndex). AreIndexes b ks s (0 + length all_rows) (laid ys)) top.1
-        all.0.1.stand in
+    all.0.1.stand in
     let blocks = rows_blocks ks 0 c all_rows keys xs fits in
     record {
       index = top.0;

@@ -4,3 +4,5 @@ pub mod RowsLemmas
 pub mod LeafLemmas
 pub mod BlockLemmas
 pub mod GroupLemmas
+pub mod GrowthLemmas
+pub mod NodeLemmas

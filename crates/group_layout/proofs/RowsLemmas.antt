@@ -26,8 +26,11 @@ rows_in_order b ks s height (ats ∷ rows) keys xs row room spelled =
     let ys = row_above height c undefined ats keys xs in
     let fits = subst (λ (n : ℕ). HaveRoom c n rows) (sym (row_length height c undefined ats keys xs)) room.1 in
     let all = rows_in_order b ks s (suc height) rows above ys one.0 fits spelled.1 in (
-      (all.0.0, subst (λ (n : ℕ). IsRow b ks s n all.0.0 (rows_above (suc height) c rows above ys)) (omega arith)
-          all.0.1),
+      (
+        all.0.0,
+        subst (λ (n : ℕ). IsRow b ks s n all.0.0 (rows_above (suc height) c rows above ys)) (omega arith)
+            all.0.1,
+      ),
       all.1 ∙ one.1,
     )
 

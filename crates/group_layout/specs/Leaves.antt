@@ -11,7 +11,7 @@ use Rattle.file_model.specs.Groups.{Ks, GroupIndex, Found}
 abbrev pub leaves : (room : ℕ) → List ℕ → List SnodEntry → List Found → List GroupIndex
 leaves room [] es fs = []
 leaves room (at ∷ ats) es fs =
-    Bottom (record { at = at; entries = take room es; links = take room fs }) 
+    Bottom (record { at = at; entries = take room es; links = take room fs })
     ∷ leaves room ats (drop room es) (drop room fs)
 
 -- where the last of these names stands, or the one before them where there is none

@@ -1,3 +1,5 @@
 pub mod Rows
 pub mod Leaves
+pub mod Growth
+pub mod Nodes
 pub mod Laws

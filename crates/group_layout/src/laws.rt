@@ -2,6 +2,8 @@
 
 ghost use Rattle.group_layout.specs.Laws.{LeavesInOrder, LeavesKept, RowAbove, RowsAbove, KeptAbove, RowsBlocks};
 ghost use Rattle.group_layout.specs.Laws.{GroupLaid};
+ghost use Rattle.group_layout.specs.Nodes.{NodesSuffice};
+ghost use Rattle.group_layout.specs.Growth.{WiderFits, FewMore, NoneMore};
 
 /// Symbol table nodes that are filled with links in order are a row in order, with these links.
 pub fn leaves_in_order()
@@ -28,4 +30,16 @@ pub fn rows_blocks()
 /// Links that are laid over the nodes at hand are a group's, by an index in order.
 pub fn group_laid()
     ensures { GroupLaid }
+{}
+
+/// Rows that grow for one more below them have room, by few nodes, and by none where each had room.
+pub fn rows_grow()
+    ensures fits { WiderFits }
+    ensures few { FewMore }
+    ensures none { NoneMore }
+{}
+
+/// The nodes of rows are told by the addresses of each row and its keys.
+pub fn nodes_suffice()
+    ensures { NodesSuffice }
 {}
