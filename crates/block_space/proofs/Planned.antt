@@ -1,6 +1,6 @@
 -- What a plan makes of the bytes and of the ends.
 use Rattle.std.proofs.Common.{◌≡◌, ◌⊎◌, inl, inr, ℕ, ◌+◌, ◌<◌, ◌≤◌, true, false, List, [], ◌∷◌, length, drop, sym, ◌∙◌}
-use Rattle.std.proofs.Common.{refl, arith}
+use Rattle.std.proofs.Common.{refl, ap, arith}
 use Rattle.std.proofs.lemmas.Bool.{cases_Bool}
 use Rattle.h5_base.specs.declared.extent.Extent.{Extent}
 use Rattle.h5_base.specs.declared.extent.MemClass.{MemClass}
@@ -13,6 +13,11 @@ use Rattle.block_space.specs.declared.plan.Take.{Take}
 use Rattle.block_space.proofs.Apart.{contains_head, contains_tail}
 use Rattle.block_space.proofs.Overlaid.{over_outside, padded_length}
 use Rattle.block_space.proofs.Ends.{EndsAsOne, raised_as_one, raised_itself, raised_one, raised_other, same_turned}
+
+-- an image isn't longer than its block
+pub filled_short : (t : Take) (image : List ℕ) → (image ≡ []) ⊎ (length image ≡ t.len) → length image ≤ t.len
+filled_short t image (inl none) = omega (arith, ap length none)
+filled_short t image (inr whole) = omega (arith, whole)
 
 -- ---- ends
 
@@ -102,7 +107,7 @@ module _ (regions : MemClass → Region) where
   takes_stay ends (t ∷ ts) [] b a filled beside = refl
   takes_stay ends (t ∷ ts) (i ∷ is) b a filled beside =
       let bytes = padded_to (rounded t.len) i in
-      let short : length i ≤ rounded t.len = omega (arith, filled.1) in
+      let short : length i ≤ rounded t.len = omega (arith, filled_short t i filled.1) in
       let long = padded_length (rounded t.len) i short in
       takes_stay (ends_with regions ends t) ts is (over b (ends t.class) bytes) a filled.2 (beside_rest ends t ts a
       beside)

@@ -14,7 +14,7 @@ use Rattle.block_space.specs.declared.plan.Take.{Take}
 use Rattle.block_space.specs.Plans.{AreFilled, LiesBesideTake, ends_after, padded_to, rounded, taken_blocks, with_takes}
 use Rattle.block_space.proofs.Ends.{ends_as_one, raised_itself, raised_up}
 use Rattle.block_space.proofs.Overlaid.{over_outside, padded_length}
-use Rattle.block_space.proofs.Planned.{after_up, ends_with, own_as_one}
+use Rattle.block_space.proofs.Planned.{after_up, ends_with, filled_short, own_as_one}
 
 pub record Took (tells : Bool) (v w : SpaceView) (ts : List Take) (is : List (List ℕ)) (i : ℕ) : Type 0 where
   pub regions : w.regions ≡ v.regions
@@ -126,7 +126,7 @@ module _ (tells : Bool) (v w : SpaceView) (ts : List Take) (is : List (List ℕ)
   take_some = next_filled.0
 
   pub take_short : length image ≤ t.len
-  take_short = next_filled.1
+  take_short = filled_short t image next_filled.1
 
   ends_next : ends_after v.regions (ends_with v.regions w.ends t) (drop (i + 1) ts) ≡ ends_after v.regions v.ends ts
   ends_next = ap (ends_after v.regions w.ends) (sym turn.split) ∙ took.ends

@@ -1,6 +1,6 @@
 -- What is taken of a space for an edit, where it lies, and what the edit makes of the bytes.
 -- Cited by `Blocks`, and by whatever plans an edit.
-use Rattle.std.specs.Prelude.{◌≡◌, ℕ, ◌+◌, ◌*◌, ◌-◌, ◌/◌, ◌<◌, ◌≤◌, ◌==◌, List, [], ◌∷◌, ◌++◌, length, replicate}
+use Rattle.std.specs.Prelude.{◌≡◌, ℕ, ◌+◌, ◌*◌, ◌-◌, ◌/◌, ◌^◌, ◌<◌, ◌≤◌, ◌==◌, List, [], ◌∷◌, ◌++◌, length, replicate}
 use Rattle.std.specs.Prelude.{slice_index, if◌then◌else◌, ◌⊎◌, drop}
 use Rattle.std.specs.List.{Contains, flat_map, sum_by}
 use Rattle.h5_base.specs.declared.extent.Extent.{Extent}
@@ -82,13 +82,7 @@ new_range v needs c =
 abbrev pub new_ranges : SpaceView → Needs → List Block
 new_ranges v needs = flat_map (new_range v needs) classes
 
--- where blocks are taken one after the other, each at its region's end
-abbrev pub places : (MemClass → Region) → Ends → List Take → List ℕ
-places regions ends [] = []
-places regions ends (t ∷ ts) =
-    ends t.class ∷ places regions (raised regions ends t.class (ends t.class + rounded t.len)) ts
-
--- and where the ends are then
+-- where the ends are once blocks are taken one after the other, each at its region's end
 abbrev pub ends_after : (MemClass → Region) → Ends → List Take → Ends
 ends_after regions ends [] = ends
 ends_after regions ends (t ∷ ts) = ends_after regions (raised regions ends t.class (ends t.class + rounded t.len)) ts
@@ -133,11 +127,11 @@ AreAsLong [] images = Unit {0}
 AreAsLong (w ∷ ws) [] = ⊥
 AreAsLong (w ∷ ws) (i ∷ is) = (length i ≡ w.len) × AreAsLong ws is
 
--- each image fits the block that is taken
+-- each image is as long as the block that is taken, or empty where the block is filled later
 abbrev pub AreFilled : List Take → List (List ℕ) → Type 0
 AreFilled [] images = images ≡ []
 AreFilled (t ∷ ts) [] = ⊥
-AreFilled (t ∷ ts) (i ∷ is) = (0 < t.len) × (length i ≤ t.len) × AreFilled ts is
+AreFilled (t ∷ ts) (i ∷ is) = (0 < t.len) × ((i ≡ []) ⊎ (length i ≡ t.len)) × AreFilled ts is
 
 -- n bytes from an address on lie within one of the blocks
 abbrev pub LiesInOne : List Block → (at n : ℕ) → Type 0
@@ -155,6 +149,7 @@ pub record FitsCatalogue (met : List Block) (plan : EditPlan) : Type 0 where
   pub filled : AreFilled plan.takes (drop (length plan.writes) plan.images)
   pub bytes : (c : MemClass) → needed plan.needs c ≡ sum_of c plan.takes
   pub blocks : plan.needs.blocks ≡ length plan.takes
+  pub small : all_needed plan.needs < 2 ^ 64
 
 -- ---- laws
 

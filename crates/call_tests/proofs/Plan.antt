@@ -1,5 +1,5 @@
 -- A plan of two writes and three takes fits a catalogue with one block of 16 bytes.
-use Rattle.std.proofs.Common.{ℕ, zero, suc, ◌+◌, ◌≡◌, ◌∙◌, ◌≤◌, List, [], ◌∷◌, length, refl, sym, subst, arith}
+use Rattle.std.proofs.Common.{ℕ, zero, suc, ◌+◌, ◌≡◌, ◌⊎◌, ◌∙◌, ◌≤◌, List, [], ◌∷◌, length, refl, sym, subst, arith}
 use Rattle.std.specs.List.{Contains}
 use Rattle.h5_base.specs.declared.extent.Extent.{Extent}
 use Rattle.h5_base.specs.declared.extent.MemClass.{MemClass}
@@ -32,6 +32,10 @@ pub record AreWrites (r s : Extent) : Type 0 where
   pub second : s.start ≡ 10
   pub second_len : s.len ≡ 2
 
+-- an image of a take
+abbrev pub IsImage : ℕ → List ℕ → Type 0
+IsImage n image = (image ≡ []) ⊎ (length image ≡ n)
+
 in_whole : (w : Extent) → w.start + w.len ≤ 16 → LiesInOne (whole ∷ []) w.start w.len
 in_whole w low = (whole, contains_head whole [], omega arith, low)
 
@@ -51,7 +55,7 @@ bytes j k l LocalHeap = refl
 bytes j k l Header = refl
 
 fits_of : (j k l : BlockKind) (r s : Extent) (a b c d e : List ℕ) → AreWrites r s
-    → length a ≡ 3 → length b ≡ 2 → length c ≤ 5 → length d ≤ 8 → length e ≤ 9
+    → length a ≡ 3 → length b ≡ 2 → IsImage 5 c → IsImage 8 d → IsImage 9 e
     → FitsCatalogue (whole ∷ []) (made_of (three j k l) (r ∷ s ∷ []) (a ∷ b ∷ c ∷ d ∷ e ∷ []))
 fits_of j k l r s a b c d e are la lb lc ld le = record {
   ascend = (omega (arith, are.first, are.second), tt);
@@ -60,11 +64,12 @@ fits_of j k l r s a b c d e are la lb lc ld le = record {
   filled = (omega arith, lc, (omega arith, ld, (omega arith, le, refl)));
   bytes = bytes j k l;
   blocks = refl;
+  small = omega arith;
 }
 
 pub fits : (j k l : BlockKind) (r s : Extent) (a b c d e : List ℕ) (takes : List Take) (writes : List Extent)
     (images : List (List ℕ)) → takes ≡ three j k l → writes ≡ r ∷ s ∷ [] → images ≡ a ∷ b ∷ c ∷ d ∷ e ∷ []
-    → AreWrites r s → length a ≡ 3 → length b ≡ 2 → length c ≤ 5 → length d ≤ 8 → length e ≤ 9
+    → AreWrites r s → length a ≡ 3 → length b ≡ 2 → IsImage 5 c → IsImage 8 d → IsImage 9 e
     → FitsCatalogue (whole ∷ []) (made_of takes writes images)
 fits j k l r s a b c d e takes writes images t w i are la lb lc ld le =
     subst (λ (ts : List Take). FitsCatalogue (whole ∷ []) (made_of ts writes images)) (sym t)

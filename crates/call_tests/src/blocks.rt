@@ -56,13 +56,13 @@ const TAKES: [Take; 3] = [
 
 // An image for each write of the plan, and then one for each take, of which the second is empty.
 fn images(alloc: Global) -> Result<Vec<Bytes>, Fail>
-    ensures { IfOk result (λ images. images.items ≡ (88 ∷ 89 ∷ 90 ∷ []) ∷ (52 ∷ 53 ∷ []) ∷ (97 ∷ 98 ∷ 99 ∷ []) ∷ []
-        ∷ (65 ∷ 66 ∷ 67 ∷ 68 ∷ 69 ∷ 70 ∷ 71 ∷ 72 ∷ 73 ∷ []) ∷ []) }
+    ensures { IfOk result (λ images. images.items ≡ (88 ∷ 89 ∷ 90 ∷ []) ∷ (52 ∷ 53 ∷ [])
+        ∷ (97 ∷ 98 ∷ 99 ∷ 100 ∷ 101 ∷ []) ∷ [] ∷ (65 ∷ 66 ∷ 67 ∷ 68 ∷ 69 ∷ 70 ∷ 71 ∷ 72 ∷ 73 ∷ []) ∷ []) }
 {
     let images = [
         Bytes::from_slice(alloc, b"XYZ")?,
         Bytes::from_slice(alloc, b"45")?,
-        Bytes::from_slice(alloc, b"abc")?,
+        Bytes::from_slice(alloc, b"abcde")?,
         Bytes::from_slice(alloc, b"")?,
         Bytes::from_slice(alloc, b"ABCDEFGHI")?,
     ];
@@ -74,8 +74,7 @@ fn images(alloc: Global) -> Result<Vec<Bytes>, Fail>
 
 // A plan over a block of 16 bytes: two writes in it, and three takes, of which the second has no image.
 fn plan(alloc: Global) -> Result<EditPlan, Fail>
-    ensures fits { IfOk result (λ plan. FitsCatalogue (record { start = 0; len = 16 } ∷ []) plan) }
-    ensures small { IfOk result (λ plan. all_needed plan.needs < 2 ^ 64) }
+    ensures { IfOk result (λ plan. FitsCatalogue (record { start = 0; len = 16 } ∷ []) plan) }
 {
     let writes = [Extent { start: 2, len: 3 }, Extent { start: 10, len: 2 }];
     let images = images(alloc)?;
@@ -96,7 +95,6 @@ fn edit<V: Space>(alloc: Global, blocks: &mut Blocks<V>, plan: EditPlan) -> Resu
     requires writable { IsTrue (V.view (space_of blocks.old)).writable }
     requires without { (V.view (space_of blocks.old)).committed ≡ None }
     requires fits { (met : List Block) × Keeps V.view blocks.old met × FitsCatalogue met plan }
-    requires small { all_needed plan.needs < 2 ^ 64 }
     ensures array { IsTrue V.tells → OnOk result ((V.view (space_of blocks.new)).array
         ≡ planned (V.view (space_of blocks.old)).regions (V.view (space_of blocks.old)).ends plan
         (V.view (space_of blocks.old)).array) }
@@ -122,7 +120,7 @@ fn edited(alloc: Global) -> Result<PlainSpace<MemStore>, Fail> {
 fn plan_is_applied(rt: HostRuntime) -> Result<(), Fail> {
     let alloc = rt.alloc();
     let store = edited(alloc)?.into_store();
-    let want = b"..XYZ.....45........abc\0\0\0\0\0\0\0\0\0\0\0\0\0ABCDEFGHI\0\0\0\0\0\0\0";
+    let want = b"..XYZ.....45........abcde\0\0\0\0\0\0\0\0\0\0\0ABCDEFGHI\0\0\0\0\0\0\0";
     assert!(rt; holds(alloc, &store, want));
     Ok(())
 }

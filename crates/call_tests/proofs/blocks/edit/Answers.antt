@@ -2,6 +2,9 @@ use Rattle.std.proofs.Common.{◌∙◌}
 use Rattle.call_tests.proofs.Reserved.{is_reserved, planned_before}
 use Rattle.call_tests.proofs.blocks.edit.Goals as goal
 
+pub reserve-requires-clause-small : goal.reserve-requires-clause-small
+reserve-requires-clause-small g c = c.requires.fits.2.2.small
+
 pub apply-requires-clause-stands : goal.apply-requires-clause-stands
 apply-requires-clause-stands g c = g.met.V.Space.readied_stands _ _ c.reserve.ensures.readied c.requires.stands
 
