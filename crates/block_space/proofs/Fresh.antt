@@ -200,6 +200,16 @@ kept_over v w c met regions ends keeps = record {
       (λ e. rw regions (omega arith)) (λ e. rw ends (omega arith)) (keeps.inside own);
 }
 
+-- The blocks stay kept where the regions do, and no end falls.
+pub kept_up : (v w : SpaceView) (c : Catalogue) (met : List Block) → w.regions ≡ v.regions
+    → ((d : MemClass) → v.ends d ≤ w.ends d) → AreListed v c met → AreListed w c met
+kept_up v w c met regions up keeps = record {
+  lists = keeps.lists;
+  few = keeps.few;
+  inside = λ own. all_inside_on (bounds_of v own) (bounds_of w own) met
+      (λ e. rw regions (omega arith)) up (keeps.inside own);
+}
+
 -- a push with room for it
 pub pushed_on : {X : Type 0} (old new : List X) (x : X) (ok : Bool) → ok ≡ true
     → new ≡ (if ok then old ++ x ∷ [] else old)

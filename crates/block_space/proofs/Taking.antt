@@ -5,21 +5,24 @@ use Rattle.std.specs.List.{Contains}
 use Rattle.std.proofs.lemmas.List.{drop_more, drop_all, get_or-drop, length-drop}
 use Rattle.std.proofs.lemmas.List.Elements.{Contains-get_or}
 use Rattle.h5_base.specs.declared.extent.MemClass.{MemClass}
+use Rattle.h5_base.specs.declared.extent.Region.{Region}
 use Rattle.outside.specs.Array.{Array, Ends, over, SameOutside}
 use Rattle.outside.specs.Blocks.{Block, most_blocks}
-use Rattle.outside.specs.Space.{AreCovered, AreRegions, HasRoom, IsReady, SpaceView}
+use Rattle.outside.specs.Space.{AreCovered, AreRegions, HasRoom, IsReady, RaisedInPart, SpaceView, raised}
 use Rattle.block_space.specs.Blocks.{Keeps}
 use Rattle.block_space.specs.declared.blocks.Blocks.{Blocks}
 use Rattle.block_space.specs.declared.plan.Take.{Take}
-use Rattle.block_space.specs.Plans.{AreFilled, LiesBesideTake, ends_after, padded_to, rounded, taken_blocks, with_takes}
-use Rattle.block_space.proofs.Ends.{ends_as_one, raised_itself, raised_up}
+use Rattle.block_space.specs.Plans.{AreFilled, LiesBesideTake, RisenInPart, ends_after, padded_to, rounded, taken_blocks}
+use Rattle.block_space.specs.Plans.{with_takes}
+use Rattle.block_space.proofs.Ends.{EndsAsOne, ends_as_one, raised_itself, raised_up}
 use Rattle.block_space.proofs.Overlaid.{over_outside, padded_length}
-use Rattle.block_space.proofs.Planned.{after_up, ends_with, filled_short, own_as_one}
+use Rattle.block_space.proofs.Planned.{after_up, ends_with, filled_short, own_as_one, with_as_one}
 
 pub record Took (tells : Bool) (v w : SpaceView) (ts : List Take) (is : List (List ℕ)) (i : ℕ) : Type 0 where
   pub regions : w.regions ≡ v.regions
   pub writable : w.writable ≡ v.writable
   pub prepared : w.prepared ≡ v.prepared
+  pub history : IsTrue tells → w.history ≡ v.history
   pub room : HasRoom w.committed w.prepared
   pub up : (c : MemClass) → v.ends c ≤ w.ends c
   pub ends : ends_after v.regions w.ends (drop i ts) ≡ ends_after v.regions v.ends ts
@@ -44,6 +47,7 @@ took_none tells v ts is room filled = record {
   regions = refl;
   writable = refl;
   prepared = refl;
+  history = λ told. refl;
   room = room;
   up = λ c. omega arith;
   ends = refl;
@@ -165,16 +169,36 @@ module _ (tells : Bool) (v w : SpaceView) (ts : List Take) (is : List (List ℕ)
         | inr behind ↦ inr (omega (arith, behind, within))
       ]) ∙ took.beside told a beside
 
+  -- each end lies between the one before and the one behind all takes, if it does for the next
+  pub risen_still : (u : SpaceView) → RaisedInPart w.regions w.ends t.class (w.ends t.class + rounded t.len) u.ends
+      → RisenInPart v.regions v.ends ts u.ends
+  risen_still u part =
+      let whole = w.ends t.class + rounded t.len in
+      let as_one = λ (c : MemClass). subst (λ (r : MemClass → Region). EndsAsOne r w.ends c) took.regions
+      (ends_as_one w.regions w.ends turn.sound c) in
+      record {
+        low = λ c. omega (arith, took.up c, part.low c);
+        high = λ c. omega (
+          arith,
+          part.high c,
+          ap (λ (r : MemClass → Region). raised r w.ends t.class whole c) took.regions,
+          after_up v.regions (ends_with v.regions w.ends t) (drop (i + 1) ts) c
+              (with_as_one v.regions w.ends t c (as_one c)),
+          ap (λ (e : Ends). e c) ends_next,
+        );
+      }
+
   pub took_next : (u : SpaceView) → u.regions ≡ w.regions → u.writable ≡ w.writable → u.prepared ≡ w.prepared
-      → HasRoom u.committed u.prepared → u.ends ≡ ends_with w.regions w.ends t
+      → (IsTrue tells → u.history ≡ w.history) → HasRoom u.committed u.prepared → u.ends ≡ ends_with w.regions w.ends t
       → (IsTrue tells → u.array ≡ over w.array (w.ends t.class) (padded_to (rounded t.len) image))
       → Took tells v u ts is (i + 1)
-  took_next u regions writable prepared room ends array =
+  took_next u regions writable prepared history room ends array =
       let ends_by : u.ends ≡ ends_with v.regions w.ends t = ends ∙ ap (λ r. ends_with r w.ends t) took.regions in
       record {
         regions = regions ∙ took.regions;
         writable = writable ∙ took.writable;
         prepared = prepared ∙ took.prepared;
+        history = λ told. history told ∙ took.history told;
         room = room;
         up = λ c.
             let before = took.up c in
@@ -225,6 +249,13 @@ took_all tells v w ts is i all took told =
 pub took_ends : (tells : Bool) (v w : SpaceView) (ts : List Take) (is : List (List ℕ)) (i : ℕ) → length ts ≤ i
     → Took tells v w ts is i → w.ends ≡ ends_after v.regions v.ends ts
 took_ends tells v w ts is i all took = ap (ends_after v.regions w.ends) (sym (drop_all i ts all)) ∙ took.ends
+
+pub took_risen : (tells : Bool) (v w : SpaceView) (ts : List Take) (is : List (List ℕ)) (i : ℕ) → length ts ≤ i
+    → Took tells v w ts is i → RisenInPart v.regions v.ends ts w.ends
+took_risen tells v w ts is i all took = record {
+  low = took.up;
+  high = λ c. omega (arith, ap (λ (e : Ends). e c) (took_ends tells v w ts is i all took));
+}
 
 pub found_all : {V : Type 0} (view : V → SpaceView) (old now : Blocks V) (ts : List Take) (i : ℕ) → length ts ≤ i
     → (found : HasFound view old now ts i) → found.blocks ≡ taken_blocks (view old.space).regions (view old.space).ends

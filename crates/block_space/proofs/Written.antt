@@ -13,6 +13,7 @@ use Rattle.block_space.proofs.Overlaid.{over_outside}
 pub record Wrote (tells : Bool) (v w : SpaceView) (ws : List Extent) (is : List (List ℕ)) (i : ℕ) : Type 0 where
   pub writable : w.writable ≡ v.writable
   pub prepared : w.prepared ≡ v.prepared
+  pub history : IsTrue tells → w.history ≡ v.history
   pub room : HasRoom w.committed w.prepared
   pub ends : w.ends ≡ v.ends
   pub long : AreAsLong (drop i ws) (drop i is)
@@ -24,6 +25,7 @@ pub wrote_none : (tells : Bool) (v : SpaceView) (ws : List Extent) (is : List (L
 wrote_none tells v ws is room long = record {
   writable = refl;
   prepared = refl;
+  history = λ told. refl;
   room = room;
   ends = refl;
   long = long;
@@ -93,12 +95,13 @@ module _ (tells : Bool) (v w : SpaceView) (ws : List Extent) (is : List (List �
   beside_still u outside told a beside = outside a (rw image_long (beside x turn.contained))
       ∙ wrote.beside told a beside
 
-  pub wrote_next : (u : SpaceView) → u.writable ≡ w.writable → u.prepared ≡ w.prepared → HasRoom u.committed u.prepared
-      → u.ends ≡ w.ends
+  pub wrote_next : (u : SpaceView) → u.writable ≡ w.writable → u.prepared ≡ w.prepared
+      → (IsTrue tells → u.history ≡ w.history) → HasRoom u.committed u.prepared → u.ends ≡ w.ends
       → (IsTrue tells → u.array ≡ over w.array x.start image) → Wrote tells v u ws is (i + 1)
-  wrote_next u writable prepared room ends array = record {
+  wrote_next u writable prepared history room ends array = record {
     writable = writable ∙ wrote.writable;
     prepared = prepared ∙ wrote.prepared;
+    history = λ told. history told ∙ wrote.history told;
     room = room;
     ends = ends ∙ wrote.ends;
     long = next_long.1;

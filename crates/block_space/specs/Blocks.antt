@@ -7,7 +7,7 @@ use Rattle.h5_base.specs.declared.refusal.Stop.{Stop}
 use Rattle.h5_base.specs.Refusals.{refusal_of}
 use Rattle.outside.specs.Array.{Array}
 use Rattle.outside.specs.Blocks.{Block, Bounds, BeginsOne, IsApart, IsInside, AllInside, most_blocks}
-use Rattle.outside.specs.Space.{SpaceView, bounds_of}
+use Rattle.outside.specs.Space.{HasRoom, SpaceView, bounds_of}
 use Rattle.block_space.specs.declared.blocks.Blocks.{Blocks}
 use Rattle.block_space.specs.declared.catalogue.Catalogue.{Catalogue}
 use Rattle.block_space.specs.Catalogue.{IsListed}
@@ -56,3 +56,7 @@ pub record MayJoin {V : Type 0} (view : V → SpaceView) (blocks : Blocks V) (me
 -- how many more blocks are taken without memory
 abbrev pub spare_of : {V : Type 0} → Blocks V → ℕ
 spare_of blocks = vec_capacity blocks.catalogue.taken - vec_len blocks.catalogue.taken
+
+-- there is room for all that the space is prepared for
+abbrev pub HasRoomNow : {V : Type 0} → (V → SpaceView) → Blocks V → Type 0
+HasRoomNow view blocks = HasRoom (view blocks.space).committed (view blocks.space).prepared

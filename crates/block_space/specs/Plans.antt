@@ -87,6 +87,11 @@ abbrev pub ends_after : (MemClass → Region) → Ends → List Take → Ends
 ends_after regions ends [] = ends
 ends_after regions ends (t ∷ ts) = ends_after regions (raised regions ends t.class (ends t.class + rounded t.len)) ts
 
+-- What taking blocks leaves of the ends, whatever it answers: each lies between the one before and the one behind all.
+pub record RisenInPart (regions : MemClass → Region) (old : Ends) (takes : List Take) (new : Ends) : Type 0 where
+  pub low : (c : MemClass) → old c ≤ new c
+  pub high : (c : MemClass) → new c ≤ ends_after regions old takes c
+
 -- the blocks
 abbrev pub taken_blocks : (MemClass → Region) → Ends → List Take → List Block
 taken_blocks regions ends [] = []

@@ -2,10 +2,11 @@ ghost use Rattle.std.specs.Prelude.{◌≡◌, ◌+◌, ◌<◌, ◌≤◌, ◌+
 ghost use Rattle.std.specs.List.{Contains};
 ghost use Rattle.outside.specs.Array.{SameOutside, over};
 ghost use Rattle.outside.specs.Blocks.{Block, most_blocks};
-ghost use Rattle.outside.specs.Space.{HasRoom, HasCauses, IsReady, raised};
-ghost use Rattle.block_space.specs.Blocks.{Keeps, spare_of, space_of};
-ghost use Rattle.block_space.specs.Plans.{AreAsLong, FitsCatalogue, LiesBeside, LiesBesideTake, LiesBesideWrites, LiesInOne};
-ghost use Rattle.block_space.specs.Plans.{PlannedStays, ends_after, padded_to, planned, rounded, taken_blocks};
+ghost use Rattle.outside.specs.Space.{HasCauses, IsReady, RaisedInPart, raised};
+ghost use Rattle.block_space.specs.Blocks.{HasRoomNow, Keeps, spare_of, space_of};
+ghost use Rattle.block_space.specs.Plans.{AreAsLong, FitsCatalogue, LiesBeside, LiesBesideTake, LiesBesideWrites};
+ghost use Rattle.block_space.specs.Plans.{LiesInOne, PlannedStays, RisenInPart, ends_after, padded_to, planned};
+ghost use Rattle.block_space.specs.Plans.{rounded, taken_blocks};
 ghost use Rattle.block_space.specs.Plans.{with_takes, with_writes};
 ghost use Rattle.block_space.specs.Reserved.{IsReserved};
 ghost use Rattle.h5_base.specs.declared.extent.Extent.{Extent};
@@ -39,12 +40,18 @@ impl<V: Space> Blocks<V> {
             ++ record { start = (V.view (space_of self.old)).ends take.class; len = take.len } ∷ [])) }
         ensures in_part { IsTrue V.tells → OnErr result (SameOutside ((V.view (space_of self.old)).ends take.class)
             (rounded take.len) (V.view (space_of self.old)).array (V.view (space_of self.new)).array) }
-        ensures spare { OnOk result (spare_of self.old ≤ spare_of self.new + 1) }
-        ensures room { OnOk result (HasRoom (V.view (space_of self.new)).committed (V.view (space_of self.new)).prepared) }
+        ensures ends_in_part { RaisedInPart (V.view (space_of self.old)).regions (V.view (space_of self.old)).ends
+            take.class ((V.view (space_of self.old)).ends take.class + rounded take.len)
+            (V.view (space_of self.new)).ends }
+        ensures history { IsTrue V.tells
+            → OnOk result ((V.view (space_of self.new)).history ≡ (V.view (space_of self.old)).history) }
+        ensures spare { spare_of self.old ≤ spare_of self.new + 1 }
+        ensures room { OnOk result (HasRoomNow V.view self.new) }
         ensures stands { OnOk result (V.Stands (space_of self.new)) }
         ensures cause { HasCauses (V.faults (space_of self.old)) (V.faults (space_of self.new))
             (V.copy_faults (space_of self.old)) (V.copy_faults (space_of self.new)) result }
-        ensures steady { IsTrue V.tells_stops → V.Steady (space_of self.old) → OnOk result (V.Steady (space_of self.new)) }
+        ensures steady { IsTrue V.tells_stops → V.Steady (space_of self.old)
+            → OnOk result (V.Steady (space_of self.new)) }
         ensures edited { V.Edited (space_of self.old) (space_of self.new) }
     {
         let at = self.take(take.class, take.len, take.kind)?;
@@ -71,11 +78,17 @@ impl<V: Space> Blocks<V> {
         ensures in_part { IsTrue V.tells → OnErr result ((a : ℕ) → ((c : MemClass) → LiesBesideTake
             (V.view (space_of self.old)).regions (V.view (space_of self.old)).ends plan.now.takes a c)
             → (V.view (space_of self.new)).array a ≡ (V.view (space_of self.old)).array a) }
-        ensures room { OnOk result (HasRoom (V.view (space_of self.new)).committed (V.view (space_of self.new)).prepared) }
+        ensures ends_in_part { RisenInPart (V.view (space_of self.old)).regions (V.view (space_of self.old)).ends
+            plan.now.takes (V.view (space_of self.new)).ends }
+        ensures history { IsTrue V.tells
+            → OnOk result ((V.view (space_of self.new)).history ≡ (V.view (space_of self.old)).history) }
+        ensures spare { spare_of self.old ≤ spare_of self.new + length plan.now.takes }
+        ensures room { OnOk result (HasRoomNow V.view self.new) }
         ensures stands { OnOk result (V.Stands (space_of self.new)) }
         ensures cause { HasCauses (V.faults (space_of self.old)) (V.faults (space_of self.new))
             (V.copy_faults (space_of self.old)) (V.copy_faults (space_of self.new)) result }
-        ensures steady { IsTrue V.tells_stops → V.Steady (space_of self.old) → OnOk result (V.Steady (space_of self.new)) }
+        ensures steady { IsTrue V.tells_stops → V.Steady (space_of self.old)
+            → OnOk result (V.Steady (space_of self.new)) }
         ensures edited { V.Edited (space_of self.old) (space_of self.new) }
     {
         let (takes, images) = (plan.takes.as_slice(), plan.images.as_slice());
@@ -94,17 +107,23 @@ impl<V: Space> Blocks<V> {
         requires long { AreAsLong plan.now.writes plan.now.images }
         requires ready { (w : Extent) → Contains plan.now.writes w
             → IsReady (V.view (space_of self.old)) w.start w.len }
-        requires room { HasRoom (V.view (space_of self.old)).committed (V.view (space_of self.old)).prepared }
+        requires room { HasRoomNow V.view self.old }
         ensures array { IsTrue V.tells → OnOk result ((V.view (space_of self.new)).array
             ≡ with_writes plan.now.writes plan.now.images (V.view (space_of self.old)).array) }
         ensures ends { (V.view (space_of self.new)).ends ≡ (V.view (space_of self.old)).ends }
+        ensures prepared { OnOk result ((V.view (space_of self.new)).prepared ≡ (V.view (space_of self.old)).prepared) }
         ensures kept { (met : List Block) → Keeps V.view self.old met → Keeps V.view self.new met }
         ensures in_part { IsTrue V.tells → OnErr result ((a : ℕ) → LiesBesideWrites plan.now.writes a
             → (V.view (space_of self.new)).array a ≡ (V.view (space_of self.old)).array a) }
+        ensures history { IsTrue V.tells
+            → OnOk result ((V.view (space_of self.new)).history ≡ (V.view (space_of self.old)).history) }
+        ensures spare { spare_of self.new ≡ spare_of self.old }
+        ensures room { OnOk result (HasRoomNow V.view self.new) }
         ensures stands { OnOk result (V.Stands (space_of self.new)) }
         ensures cause { HasCauses (V.faults (space_of self.old)) (V.faults (space_of self.new))
             (V.copy_faults (space_of self.old)) (V.copy_faults (space_of self.new)) result }
-        ensures steady { IsTrue V.tells_stops → V.Steady (space_of self.old) → OnOk result (V.Steady (space_of self.new)) }
+        ensures steady { IsTrue V.tells_stops → V.Steady (space_of self.old)
+            → OnOk result (V.Steady (space_of self.new)) }
         ensures edited { V.Edited (space_of self.old) (space_of self.new) }
     {
         let (writes, images) = (plan.writes.as_slice(), plan.images.as_slice());
@@ -128,13 +147,21 @@ impl<V: Space> Blocks<V> {
         ensures found { OnOk result ((met : List Block) → Keeps V.view self.old met → FitsCatalogue met plan.now
             → Keeps V.view self.new (met ++ taken_blocks (V.view (space_of self.old)).regions
             (V.view (space_of self.old)).ends plan.now.takes)) }
+        ensures prepared { OnOk result ((V.view (space_of self.new)).prepared ≡ (V.view (space_of self.old)).prepared) }
         ensures in_part { IsTrue V.tells → OnErr result ((a : ℕ) → LiesBeside (V.view (space_of self.old)).regions
             (V.view (space_of self.old)).ends plan.now a
             → (V.view (space_of self.new)).array a ≡ (V.view (space_of self.old)).array a) }
+        ensures ends_in_part { RisenInPart (V.view (space_of self.old)).regions (V.view (space_of self.old)).ends
+            plan.now.takes (V.view (space_of self.new)).ends }
+        ensures history { IsTrue V.tells
+            → OnOk result ((V.view (space_of self.new)).history ≡ (V.view (space_of self.old)).history) }
+        ensures spare { spare_of self.old ≤ spare_of self.new + plan.now.needs.blocks }
+        ensures room { OnOk result (HasRoomNow V.view self.new) }
         ensures stands { OnOk result (V.Stands (space_of self.new)) }
         ensures cause { HasCauses (V.faults (space_of self.old)) (V.faults (space_of self.new))
             (V.copy_faults (space_of self.old)) (V.copy_faults (space_of self.new)) result }
-        ensures steady { IsTrue V.tells_stops → V.Steady (space_of self.old) → OnOk result (V.Steady (space_of self.new)) }
+        ensures steady { IsTrue V.tells_stops → V.Steady (space_of self.old)
+            → OnOk result (V.Steady (space_of self.new)) }
         ensures edited { V.Edited (space_of self.old) (space_of self.new) }
     {
         self.take_all(plan)?;

@@ -6,7 +6,7 @@ ghost use Rattle.outside.specs.Array.{bytes_of};
 ghost use Rattle.outside.specs.Blocks.{Block, IsBlockRefused, IsInside};
 ghost use Rattle.outside.specs.Causes.{OneRose};
 ghost use Rattle.outside.specs.Space.{bounds_of};
-ghost use Rattle.block_space.specs.Blocks.{IsSetAside, Keeps, MayJoin, space_of};
+ghost use Rattle.block_space.specs.Blocks.{IsSetAside, Keeps, MayJoin, space_of, spare_of};
 
 use crate::catalogue::Catalogue;
 use crate::neighbours::shared_address;
@@ -122,6 +122,7 @@ impl<V: Space> Blocks<V> {
         ensures bytes { IsTrue V.tells → OnOk result
             (out.new ≡ bytes_of (V.view (space_of self.old)).array at (length out.old)) }
         ensures kept { (met : List Block) → Keeps V.view self.old met → Keeps V.view self.new met }
+        ensures spare { spare_of self.new ≡ spare_of self.old }
         ensures alike { V.Alike (space_of self.old) (space_of self.new) }
         ensures failed { OnErr result (OneRose (V.faults (space_of self.old)) (V.faults (space_of self.new))) }
         ensures calm { OnOk result (V.faults (space_of self.new) ≡ V.faults (space_of self.old)) }

@@ -5,7 +5,7 @@ ghost use Rattle.outside.specs.Array.{bytes_of};
 ghost use Rattle.outside.specs.Blocks.{Block, IsBlockRefused, IsPlacedRefused, placed};
 ghost use Rattle.outside.specs.Causes.{OneRose};
 ghost use Rattle.outside.specs.Space.{bounds_of};
-ghost use Rattle.block_space.specs.Blocks.{Keeps, space_of};
+ghost use Rattle.block_space.specs.Blocks.{Keeps, space_of, spare_of};
 
 use crate::Blocks;
 use h5_base::{BlockKind, Stop};
@@ -40,6 +40,7 @@ impl<V: Space> Blocks<V> {
             (λ v. v.items ≡ bytes_of (V.view (space_of self.old)).array at len) }
         ensures len { IfOk result (λ v. length v.items ≡ len) }
         ensures kept { (met : List Block) → Keeps V.view self.old met → Keeps V.view self.new met }
+        ensures spare { spare_of self.new ≡ spare_of self.old }
         ensures refused { IfErr result (λ stop. refusal_of stop ≡ None) }
         ensures alike { V.Alike (space_of self.old) (space_of self.new) }
         ensures failed { IsErrOf result Stop.Failed

@@ -141,6 +141,12 @@ pub record IsRaised (tells : Bool) (class : MemClass) (end : ℕ) (old new : Spa
   pub ends : new.ends ≡ raised old.regions old.ends class end
   pub prepared : new.prepared ≡ old.prepared
 
+-- What a raise leaves of the ends, whatever it answers: each lies between the one before and the one asked for.
+pub record RaisedInPart (regions : MemClass → Region) (old : Ends) (class : MemClass) (end : ℕ) (new : Ends) : Type 0
+  where
+    pub low : (c : MemClass) → old c ≤ new c
+    pub high : (c : MemClass) → new c ≤ raised regions old class end c
+
 -- each range that was given before, and is asked for again, stays given
 abbrev pub StaysGiven : List Extent → SpaceView → SpaceView → Type 0
 StaysGiven asked old new = (r : Extent) → Contains old.prepared r → Contains asked r → Contains new.prepared r

@@ -8,7 +8,7 @@ ghost use Rattle.outside.specs.Files.{Files, RestsAt};
 ghost use Rattle.outside.specs.Store.{View, Goes, GoesOver};
 ghost use Rattle.outside.specs.Layer.{LayerShape, SameIn, IsOwn, RoseIn, KeepsCounts, Undisturbed, StayIn};
 ghost use Rattle.outside.specs.Layer.{AreAmong, LastOn};
-ghost use Rattle.outside.specs.Space.{Ascend, AreCovered, AreRegions, LiesIn, raised, new_bytes};
+ghost use Rattle.outside.specs.Space.{Ascend, AreCovered, AreRegions, LiesIn, RaisedInPart, raised, new_bytes};
 
 use crate::{Failed, Kept, Store, WriteStop};
 use h5_base::{Extent, MemClass, NoMemory, Region};
@@ -110,8 +110,7 @@ pub trait Layer<S: Store>: Kept {
             (ends self.old class) (new_bytes (ends self.old) class end) }
         ensures ends { ¬ IsErrOf result WriteStop.Failed
             → ends self.new ≡ raised (shape self.old).regions (ends self.old) class end }
-        ensures ends_in_part { (other : MemClass)
-            → ends self.new other ≤ raised (shape self.old).regions (ends self.old) class end other }
+        ensures ends_in_part { RaisedInPart (shape self.old).regions (ends self.old) class end (ends self.new) }
         ensures shape { shape self.new ≡ shape self.old }
         ensures prepared { prepared self.new ≡ prepared self.old }
         ensures begun { OnOk result (Begun self.new (S.view store.new)) }

@@ -5,7 +5,7 @@ ghost use Rattle.outside.specs.Causes.{Counts, NoneFell, OneRose};
 ghost use Rattle.outside.specs.Revisions.{Stored};
 ghost use Rattle.outside.specs.Space.{SpaceView, LiesIn, IsReady, HasRoom, Ascend, SameKind, IsWritten, IsRaised};
 ghost use Rattle.outside.specs.Space.{HasCauses, IsRefusal, IsCommitted, CommitCauses, Continue, LeaveOnly, LeavesSame};
-ghost use Rattle.outside.specs.Space.{StaysGiven, MayBeMade, IsSound, raised, new_bytes};
+ghost use Rattle.outside.specs.Space.{StaysGiven, MayBeMade, IsSound, RaisedInPart, raised, new_bytes};
 
 use crate::{Failed, Kept};
 use h5_base::{Comment, Extent, MemClass, NoMemory, Region};
@@ -139,8 +139,7 @@ pub trait Space: Kept {
             → (view self.new).ends ≡ raised (view self.old).regions (view self.old).ends class end }
         ensures in_part { IsTrue tells → OnErr result (SameOutside ((view self.old).ends class)
             (end - (view self.old).ends class) (view self.old).array (view self.new).array) }
-        ensures ends_in_part { (other : MemClass) → (view self.new).ends other
-            ≤ raised (view self.old).regions (view self.old).ends class end other }
+        ensures ends_in_part { RaisedInPart (view self.old).regions (view self.old).ends class end (view self.new).ends }
         ensures stands { OnOk result (Stands self.new) }
         ensures cause { HasCauses (faults self.old) (faults self.new) (copy_faults self.old) (copy_faults self.new)
             result }

@@ -1,8 +1,9 @@
 use Rattle.std.proofs.Common.{ℕ, ◌+◌, ◌∙◌, ap, arith, refl}
 use Rattle.outside.specs.Space.{raised}
 use Rattle.block_space.specs.Plans.{rounded}
-use Rattle.block_space.proofs.Fresh.{pushed_on, takes_at_end}
+use Rattle.block_space.proofs.Fresh.{kept_up, pushed_on, takes_at_end}
 use Rattle.block_space.proofs.Room.{room_stays}
+use Rattle.block_space.proofs.Stopped.{on_err}
 use Rattle.block_space.proofs.blocks.Blocks.take.Goals as goal
 
 pub returns-clause-found : goal.returns-clause-found
@@ -29,3 +30,8 @@ returns-clause-room g c =
       high,
       c.end-at.ensures,
     ))) done.pages c.requires.ready.room)
+
+pub returns-in_err-raise-clause-kept_still : goal.returns-in_err-raise-clause-kept_still
+returns-in_err-raise-clause-kept_still g c = on_err c.from_residual.result _ (λ met.
+    kept_up (g.V.Space.view c.args.self.now.space) (g.V.Space.view c.raise.new.self) _ met
+    (g.met.V.Space.edited_kind _ _ c.raise.ensures.edited).regions c.raise.ensures.ends_in_part.low)

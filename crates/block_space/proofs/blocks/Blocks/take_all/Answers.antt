@@ -5,7 +5,7 @@ use Rattle.block_space.specs.Blocks.{Keeps}
 use Rattle.block_space.proofs.Readied.{all_ready}
 use Rattle.block_space.proofs.Stopped.{on_err}
 use Rattle.block_space.proofs.Taking.{AllReady, Turn, beside_still, found_all, found_next, found_none, image_there}
-use Rattle.block_space.proofs.Taking.{next_turn}
+use Rattle.block_space.proofs.Taking.{next_turn, risen_still, took_risen}
 use Rattle.block_space.proofs.Taking.{take_below, take_ready, take_short, take_some, took_next, took_none}
 use Rattle.block_space.proofs.blocks.Blocks.take_all.Given.{Over}
 use Rattle.block_space.proofs.blocks.Blocks.take_all.Goals as goal
@@ -121,9 +121,10 @@ loop-i-preserved g c =
       steady = λ tells steady. c.in_ok-take_with.ensures.steady tells (invariant.steady tells steady);
       faults = c.in_ok-take_with.ensures.cause.calm (λ no. absurd cc) ∙ invariant.faults;
       copies = c.in_ok-take_with.ensures.cause.copy_calm (λ no. absurd cc) ∙ invariant.copies;
-      spare = omega (arith, invariant.spare, c.in_ok-take_with.ensures.spare);
+      spare = omega (arith, invariant.spare, c.take_with.ensures.spare);
       took = took_next g.V.Space.tells v mid _ _ c.loop-i.i _ c.as_slice.result.now own new kind.regions kind.writable
-          c.in_ok-take_with.ensures.prepared c.in_ok-take_with.ensures.room c.in_ok-take_with.ensures.ends
+          c.in_ok-take_with.ensures.prepared (λ told. c.in_ok-take_with.ensures.history told)
+          c.in_ok-take_with.ensures.room c.in_ok-take_with.ensures.ends
           (λ told. c.in_ok-take_with.ensures.array told);
       found = found_next g.V.Space.view c.args.self.now c.loop-i.self c.take_with.new.self g.V.Space.tells _ _
           c.loop-i.i _ _ own
@@ -139,3 +140,24 @@ returns-clause-found g c = λ met keeps.
     (omega (arith, c.loop-i-test.false, ap length c.as_slice-takes.ensures)) found in
     subst (λ ys. Keeps g.V.Space.view c.loop-i.self (met ++ ys)) all (found.kept met keeps
     (omega (arith, few, r.2.blocks, keeps.lists.count, r.1.lists.count)))
+
+pub returns-in_err-take_with-clause-ends_in_part : goal.returns-in_err-take_with-clause-ends_in_part
+returns-in_err-take_with-clause-ends_in_part g c =
+    risen_still g.V.Space.tells (g.V.Space.view c.args.self.now.space) (g.V.Space.view c.loop-i.self.space)
+    _ _ c.loop-i.i _ c.as_slice.result.now
+    (turn g (goal.at.returns-in_err-take_with-clause-ends_in_part g c).After-as_slice)
+    (g.V.Space.view c.take_with.new.self.space) c.take_with.ensures.ends_in_part
+
+pub returns-in_err-take_with-clause-spare : goal.returns-in_err-take_with-clause-spare
+returns-in_err-take_with-clause-spare g c =
+    omega (
+      arith,
+      c.loop-i.invariant.spare,
+      c.take_with.ensures.spare,
+      c.loop-i-test.true,
+      ap length c.as_slice-takes.ensures,
+    )
+
+pub returns-clause-ends_in_part : goal.returns-clause-ends_in_part
+returns-clause-ends_in_part g c = took_risen g.V.Space.tells _ _ _ _ c.loop-i.i
+    (omega (arith, c.loop-i-test.false, ap length c.as_slice-takes.ensures)) c.loop-i.invariant.took

@@ -59,6 +59,7 @@ loop-i-preserved g c =
       copies = c.in_ok-patch.ensures.cause.copy_calm (λ no. absurd cc) ∙ invariant.copies;
       wrote = wrote_next g.V.Space.tells v mid _ _ c.loop-i.i _ c.as_slice.result.now
           (turn g (goal.at.loop-i-preserved g c).After-as_slice) new kind.writable c.in_ok-patch.ensures.done.prepared
-          c.in_ok-patch.ensures.room c.patch.ensures.ends (λ told. (c.in_ok-patch.ensures.done.wrote told).array);
+          (λ told. (c.in_ok-patch.ensures.done.wrote told).history) c.in_ok-patch.ensures.room c.patch.ensures.ends (λ told. (c.in_ok-patch.ensures.done.wrote told).array);
+      spare = c.patch.ensures.spare ∙ invariant.spare;
       kept = λ met keeps. c.patch.ensures.kept met (invariant.kept met keeps);
     }

@@ -1,6 +1,6 @@
 use Rattle.std.proofs.Common.{◌≡◌, List, IsTrue}
 use Rattle.outside.specs.Blocks.{Block}
-use Rattle.block_space.specs.Blocks.{Keeps}
+use Rattle.block_space.specs.Blocks.{Keeps, spare_of}
 use Rattle.block_space.proofs.Written.{Wrote}
 use Rattle.block_space.proofs.blocks.Blocks.write_all.Given as goal
 
@@ -13,5 +13,6 @@ invariant-loop-i g l = record {
   copies : g.V.Space.copy_faults l.self.space ≡ g.V.Space.copy_faults l.fn.self.space;
   wrote : Wrote g.V.Space.tells (g.V.Space.view l.fn.self.space) (g.V.Space.view l.self.space) l.fn.plan.writes
       l.fn.plan.images l.i;
+  spare : spare_of l.self ≡ spare_of l.fn.self;
   kept : (met : List Block) → Keeps g.V.Space.view l.fn.self met → Keeps g.V.Space.view l.self met;
 }
