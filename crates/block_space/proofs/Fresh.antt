@@ -15,17 +15,13 @@ use Rattle.outside.specs.Space.{SpaceView, AreRegions, LiesIn, IsCommitted, boun
 use Rattle.outside.specs.declared.space.CommitAnswer.{CommitAnswer}
 use Rattle.outside.specs.declared.space.CommitAnswer.TheVariants.{Done, NoOnion, Limit, Clock}
 use Rattle.block_space.specs.declared.catalogue.Catalogue.{Catalogue}
-use Rattle.block_space.specs.Catalogue.{IsListed, blocks_of}
+use Rattle.block_space.specs.Catalogue.{IsListed, block_of, blocks_of}
 use Rattle.block_space.specs.Blocks.{AreListed}
 use Rattle.block_space.specs.Plans.{LiesInOne, rounded}
 use Rattle.block_space.proofs.Apart.{contains_cons, apart_from_each, each_apart, all_apart_push, all_inside_push}
 use Rattle.block_space.proofs.Ends.{ends_as_one, raised_itself, raised_up}
 
 -- ---- a catalogue with one more block that was taken
-
--- the block of a range
-abbrev pub block_of : Extent → Block
-block_of x = record { start = x.start; len = x.len }
 
 blocks_push : (xs : List Extent) (x : Extent) → blocks_of (xs ++ x ∷ []) ≡ blocks_of xs ++ block_of x ∷ []
 blocks_push xs x = map-append (λ (e : Extent). let b : Block = record { start = e.start; len = e.len } in b) xs (x ∷ [])

@@ -1,24 +1,27 @@
 -- What was reserved covers what is taken and written.
-use Rattle.std.proofs.Common.{◌≡◌, ℕ, ◌<◌, ◌==◌, inl, inr, Bool, List, [], ◌∷◌, ◌++◌, length, refl, sym, ap}
+use Rattle.std.proofs.Common.{◌≡◌, ℕ, ◌+◌, ◌^◌, ◌<◌, ◌==◌, inl, inr, Bool, List, [], ◌∷◌, ◌++◌, length, refl, sym, ap}
 use Rattle.std.proofs.Common.{subst, arith, if◌then◌else◌}
 use Rattle.std.specs.List.{Contains, flat_map}
+use Rattle.std.proofs.Math.Bridge.{le_prop}
 use Rattle.std.proofs.lemmas.Bool.{cases_Bool, eqb-true}
 use Rattle.std.proofs.lemmas.List.Elements.{Contains-append_left, Contains-append_right}
+use Rattle.std.specs.List.Sorted.{IsPermutation}
+use Rattle.std.specs.declared.option.Option.TheVariants.{Some, None}
 use Rattle.std.proofs.lemmas.List.Sorted.{Contains-permutation, IsPermutation-sym}
 use Rattle.h5_base.specs.declared.extent.Extent.{Extent}
 use Rattle.h5_base.specs.declared.extent.MemClass.{MemClass}
 use Rattle.h5_base.specs.declared.extent.MemClass.TheVariants.{Super, Tree, Raw, GlobalHeap, LocalHeap, Header}
 use Rattle.outside.specs.Blocks.{Block}
-use Rattle.outside.specs.Space.{AreCovered, AreRegions, SpaceView}
-use Rattle.block_space.specs.Catalogue.{blocks_of}
-use Rattle.block_space.specs.Plans.{FitsCatalogue, classes, need_of, needed, new_ranges}
-use Rattle.block_space.specs.Reserved.{IsReserved, ReservedCovers}
+use Rattle.outside.specs.Pages.{IsMet, MeetsOne, OrMetByOne}
+use Rattle.outside.specs.Space.{AreCovered, AreRegions, SpaceView, StaysGiven}
+use Rattle.block_space.specs.Catalogue.{block_of, blocks_of}
+use Rattle.block_space.specs.Plans.{EndsBehindNeeds, FitsCatalogue, classes, need_of, needed, new_ranges}
+use Rattle.block_space.specs.Reserved.{AskedStay, IsReserved, ReservedCovers, RoomInAnyOrder}
 use Rattle.block_space.specs.declared.plan.EditPlan.{EditPlan}
 use Rattle.block_space.specs.declared.plan.Needs.{Needs}
 use Rattle.block_space.proofs.Apart.{contains_cons, contains_head, contains_tail}
 use Rattle.block_space.proofs.Counted.{after_needed, some_needed}
 use Rattle.block_space.proofs.Ends.{ends_as_one}
-use Rattle.block_space.proofs.Fresh.{block_of}
 use Rattle.block_space.proofs.Taking.{AllReady}
 
 -- ---- lists
@@ -103,3 +106,53 @@ all_ready v plan met spare reserved sound fits =
           reserved.covered.takes t.class (some_needed plan.needs plan.takes t has some (fits.bytes t.class)) a low
           (omega (arith, high, after t.class));
     }
+
+-- two ranges of one start and one length are equal
+same_extent : (x y : Extent) → x.start ≡ y.start → x.len ≡ y.len → x ≡ y
+same_extent x y start len =
+    let here : (f : y.start + y.len < 2 ^ 64) → (record { start = y.start; len = y.len; fits = f }) ≡ y = λ f.
+    ap (λ (p : y.start + y.len < 2 ^ 64). let z : Extent = record { start = y.start; len = y.len; fits = p } in z)
+    (le_prop f y.fits) in
+    let moved : (f : x.start + y.len < 2 ^ 64) → (record { start = x.start; len = y.len; fits = f }) ≡ y =
+    subst (λ (s : ℕ). (f : s + y.len < 2 ^ 64) → (record { start = s; len = y.len; fits = f }) ≡ y) (sym start) here in
+    subst (λ (l : ℕ). (f : x.start + l < 2 ^ 64) → (record { start = x.start; len = l; fits = f }) ≡ y) (sym len) moved
+    x.fits
+
+-- each range that is asked for again stays given
+pub asked_stay : (old new : SpaceView) (ranges : List Extent) (asked : List Block)
+    → IsPermutation (blocks_of ranges) asked → StaysGiven ranges old new → AskedStay asked old new
+asked_stay old new ranges asked all stays r was again =
+    let here = range_there ranges (block_of r) (Contains-permutation asked (blocks_of ranges) (block_of r)
+    (IsPermutation-sym (blocks_of ranges) asked all) again) in
+    let same = same_extent here.0 r (ap (λ (b : Block). b.start) here.2) (ap (λ (b : Block). b.len) here.2) in
+    stays r was (subst (Contains ranges) same here.1)
+
+-- ---- laws
+
+pub ends_behind_needs : EndsBehindNeeds
+ends_behind_needs regions ends met plan c sound fits =
+    after_needed regions ends plan.needs plan.takes c (ends_as_one regions ends sound c) fits.bytes
+
+-- a page that one of the ranges meets is met by one of the same ranges in another order
+met_in_order : (page p : ℕ) (old new : List Extent) → IsPermutation (blocks_of old) (blocks_of new)
+    → MeetsOne page old p → MeetsOne page new p
+met_in_order page p old new all met =
+    let has = Contains-permutation (blocks_of old) (blocks_of new) (block_of met.0) all (block_there old met.0 met.1) in
+    let here = range_there new (block_of met.0) has in
+    (here.0, here.1, subst (λ (b : Block). IsMet page b.start b.len p) (sym here.2) met.2)
+
+or_in_order : (page p : ℕ) (pages : List ℕ) (old new : List Extent) → IsPermutation (blocks_of old) (blocks_of new)
+    → OrMetByOne page pages old p → OrMetByOne page pages new p
+or_in_order page p pages old new all (inl has) = inl has
+or_in_order page p pages old new all (inr met) = inr (met_in_order page p old new all met)
+
+pub room_in_any_order : RoomInAnyOrder
+room_in_any_order None old new all room = tt
+room_in_any_order (Some c) old new all room = λ pages are. room pages (record {
+  ordered = are.ordered;
+  each = λ p. (
+    λ has. or_in_order c.page p c.written new old (IsPermutation-sym (blocks_of old) (blocks_of new) all)
+        ((are.each p).0 has),
+    λ met. (are.each p).1 (or_in_order c.page p c.written old new all met),
+  );
+})

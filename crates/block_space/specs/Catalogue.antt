@@ -1,6 +1,7 @@
 -- A map from the start of each block to its length: which blocks it holds, and which of them lie next to an address.
 -- Cited by the catalogue of the blocks of a file.
-use Rattle.std.specs.Prelude.{◌≡◌, ◌↔◌, ◌⊎◌, ℕ, ◌+◌, ◌<◌, ◌≤◌, List, map, length, Option, Some, None, IsSome, MatchOption}
+use Rattle.std.specs.Prelude.{◌≡◌, ◌↔◌, ◌⊎◌, ℕ, ◌+◌, ◌<◌, ◌≤◌, List, map, length, Option, Some, None, IsSome}
+use Rattle.std.specs.Prelude.{MatchOption}
 use Rattle.std.specs.List.{Contains}
 use Rattle.std.specs.Ordering.{nat_cmp}
 use Rattle.std.specs.BTreeMap.{BTreeMap, get, btree_map_len}
@@ -27,6 +28,10 @@ pub record Lists (m : BTreeMap ℕ ℕ) (met : List Block) : Type 0 where
   pub filled : (x : Block) → Contains met x → 0 < x.len
   pub apart : AllApart met
 
+-- a range as a block
+abbrev pub block_of : Extent → Block
+block_of x = record { start = x.start; len = x.len }
+
 -- the blocks of a list of ranges
 abbrev pub blocks_of : List Extent → List Block
 blocks_of = map (λ x. record { start = x.start; len = x.len })
@@ -35,7 +40,8 @@ blocks_of = map (λ x. record { start = x.start; len = x.len })
 -- where one of the others does.
 pub record IsListed (c : Catalogue) (met : List Block) : Type 0 where
   pub entries : (start len : ℕ)
-      → ((get nat_cmp c.entries start ≡ Some len) ⊎ Contains (blocks_of c.taken.items) (record { start = start; len = len }))
+      → ((get nat_cmp c.entries start ≡ Some len)
+      ⊎ Contains (blocks_of c.taken.items) (record { start = start; len = len }))
       ↔ Contains met (record { start = start; len = len })
   pub fresh : (x : Block) → Contains (blocks_of c.taken.items) x → get nat_cmp c.entries x.start ≡ None
   pub own : AllApart (blocks_of c.taken.items)

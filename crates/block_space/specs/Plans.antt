@@ -9,7 +9,7 @@ use Rattle.h5_base.specs.declared.extent.MemClass.TheVariants.{Super, Tree, Raw,
 use Rattle.h5_base.specs.declared.extent.Region.{Region}
 use Rattle.outside.specs.Array.{Array, Ends, over}
 use Rattle.outside.specs.Blocks.{Block, most_blocks}
-use Rattle.outside.specs.Space.{SpaceView, same_region, raised, Ascend}
+use Rattle.outside.specs.Space.{AreRegions, SpaceView, same_region, raised, Ascend}
 use Rattle.block_space.specs.declared.plan.Needs.{Needs}
 use Rattle.block_space.specs.declared.plan.Take.{Take}
 use Rattle.block_space.specs.declared.plan.EditPlan.{EditPlan}
@@ -175,3 +175,9 @@ pub record LiesBeside (regions : MemClass → Region) (ends : Ends) (plan : Edit
 abbrev pub PlannedStays : Type 0
 PlannedStays = (regions : MemClass → Region) (ends : Ends) (met : List Block) (plan : EditPlan) (b : Array) (a : ℕ)
     → FitsCatalogue met plan → LiesBeside regions ends plan a → planned regions ends plan b a ≡ b a
+
+-- The ends behind the takes of a plan are those behind its needs.
+abbrev pub EndsBehindNeeds : Type 0
+EndsBehindNeeds = (regions : MemClass → Region) (ends : Ends) (met : List Block) (plan : EditPlan) (c : MemClass)
+    → AreRegions regions ends → FitsCatalogue met plan
+    → ends_after regions ends plan.takes c ≡ ends c + need_of regions plan.needs c

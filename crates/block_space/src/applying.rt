@@ -4,7 +4,7 @@ ghost use Rattle.outside.specs.Array.{SameOutside, over};
 ghost use Rattle.outside.specs.Blocks.{Block, most_blocks};
 ghost use Rattle.outside.specs.Space.{HasCauses, IsReady, RaisedInPart, raised};
 ghost use Rattle.block_space.specs.Blocks.{HasRoomNow, Keeps, spare_of, space_of};
-ghost use Rattle.block_space.specs.Plans.{AreAsLong, FitsCatalogue, LiesBeside, LiesBesideTake, LiesBesideWrites};
+ghost use Rattle.block_space.specs.Plans.{AreAsLong, EndsBehindNeeds, FitsCatalogue, LiesBeside, LiesBesideTake, LiesBesideWrites};
 ghost use Rattle.block_space.specs.Plans.{LiesInOne, PlannedStays, RisenInPart, ends_after, padded_to, planned};
 ghost use Rattle.block_space.specs.Plans.{rounded, taken_blocks};
 ghost use Rattle.block_space.specs.Plans.{with_takes, with_writes};
@@ -172,4 +172,9 @@ impl<V: Space> Blocks<V> {
 /// What lies beside what a plan writes and takes stays.
 pub fn planned_stays()
     ensures { PlannedStays }
+{}
+
+/// The ends behind the takes of a plan are those behind its needs.
+pub fn ends_behind_needs()
+    ensures { EndsBehindNeeds }
 {}

@@ -12,11 +12,11 @@ mod regions;
 mod reserving;
 mod writing;
 
-pub use applying::planned_stays;
+pub use applying::{ends_behind_needs, planned_stays};
 pub use blocks::Blocks;
 pub use catalogue::Catalogue;
 pub use plan::{EditPlan, Needs, PlanStop, ReserveStop, Take};
-pub use reserving::reserved_covers;
+pub use reserving::{reserved_covers, room_in_any_order};
 
 /// What `Blocks::adopt` answers of a block that isn't taken in: a refusal, or want of memory.
 pub type AdoptStop = h5_base::Stop;

@@ -1,12 +1,13 @@
-ghost use Rattle.std.specs.Prelude.{◌≡◌, ◌≢◌, ◌↔◌, ◌+◌, ◌-◌, ◌^◌, ◌<◌, ◌≤◌, ◌++◌, List, length, min, IsTrue, IfOk, IfErr};
-ghost use Rattle.std.specs.Prelude.{IfSome, IfNone, OnOk, IsErrOf};
+ghost use Rattle.std.specs.Prelude.{◌≡◌, ◌≢◌, ◌↔◌, ◌+◌, ◌-◌, ◌^◌, ◌<◌, ◌≤◌, ◌++◌, List, length, min};
+ghost use Rattle.std.specs.Prelude.{IfSome, IfNone, IfOk, IfErr, IsTrue, OnOk, OnErr, IsErrOf};
 ghost use Rattle.std.specs.List.Sorted.{IsPermutation};
 ghost use Rattle.outside.specs.Blocks.{Block};
-ghost use Rattle.outside.specs.Space.{Ascend, same_region};
+ghost use Rattle.outside.specs.Space.{Ascend, StaysGiven, same_region};
 ghost use Rattle.block_space.specs.Blocks.{Keeps, spare_of, space_of};
 ghost use Rattle.block_space.specs.Catalogue.{IsListed, blocks_of};
-ghost use Rattle.block_space.specs.Plans.{HasRoomFor, IsFirstShort, IsNoRoom, IsShort, all_needed, need_of, new_range, new_ranges, share};
-ghost use Rattle.block_space.specs.Reserved.{ReservedCovers};
+ghost use Rattle.block_space.specs.Plans.{HasRoomFor, IsFirstShort, IsNoRoom, IsShort, all_needed, need_of, new_range};
+ghost use Rattle.block_space.specs.Plans.{new_ranges, share};
+ghost use Rattle.block_space.specs.Reserved.{AskedStay, ReservedCovers, RoomInAnyOrder};
 
 use crate::blocks::{Blocks, MOST_BLOCKS};
 use crate::plan::{Needs, ReserveStop};
@@ -152,6 +153,8 @@ impl<V: Space> Blocks<V> {
         requires ascend { Ascend ranges.now.items }
         ensures spare { OnOk result (blocks ≤ spare_of self.new) }
         ensures prepared { OnOk result ((V.view (space_of self.new)).prepared ≡ ranges.now.items) }
+        ensures given { OnErr result (StaysGiven ranges.now.items (V.view (space_of self.old))
+            (V.view (space_of self.new))) }
         ensures kept { (met : List Block) → Keeps V.view self.old met → Keeps V.view self.new met }
         ensures readied { V.Readied (space_of self.old) (space_of self.new) }
     {
@@ -180,6 +183,9 @@ impl<V: Space> Blocks<V> {
         ensures spare { OnOk result (needs.now.blocks ≤ spare_of self.new) }
         ensures refused { IfErr result (λ stop. (met : List Block) → Keeps V.view self.old met
             → IsNoRoom (V.view (space_of self.old)) (length met) needs.now stop) }
+        ensures given { OnErr result (AskedStay (blocks_of writes.now.items
+            ++ new_ranges (V.view (space_of self.old)) needs.now) (V.view (space_of self.old))
+            (V.view (space_of self.new))) }
         ensures same { IfErr result (λ stop. stop ≢ ReserveStop.NoMemory
             → V.view (space_of self.new) ≡ V.view (space_of self.old)) }
         ensures kept { (met : List Block) → Keeps V.view self.old met → Keeps V.view self.new met }
@@ -213,4 +219,10 @@ impl<V: Space> Blocks<V> {
 /// What `reserve` prepares a space for covers the writes, and what is needed behind the ends.
 pub fn reserved_covers()
     ensures { ReservedCovers }
+{}
+
+/// Whether there is room for ranges doesn't depend on their order: what a space answers of the ranges of an edit is so
+/// of what `reserve` prepares it for.
+pub fn room_in_any_order()
+    ensures { RoomInAnyOrder }
 {}
