@@ -23,7 +23,7 @@ use Rattle.block_space.proofs.Ends.{ends_as_one, raised_itself, raised_up}
 
 -- ---- a catalogue with one more block that was taken
 
-blocks_push : (xs : List Extent) (x : Extent) → blocks_of (xs ++ x ∷ []) ≡ blocks_of xs ++ block_of x ∷ []
+pub blocks_push : (xs : List Extent) (x : Extent) → blocks_of (xs ++ x ∷ []) ≡ blocks_of xs ++ block_of x ∷ []
 blocks_push xs x = map-append (λ (e : Extent). let b : Block = record { start = e.start; len = e.len } in b) xs (x ∷ [])
 
 some_or_none : (o : Option ℕ) → (o ≡ None) ⊎ ((n : ℕ) × (o ≡ Some n))

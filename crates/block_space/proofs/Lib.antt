@@ -11,6 +11,7 @@ pub mod Ends
 pub mod Room
 pub mod Fresh
 pub mod Overlaid
+pub mod Pages
 pub mod Planned
 pub mod Counted
 pub mod Written

@@ -1,21 +1,24 @@
 -- What was taken so far of the blocks of a plan.
 use Rattle.std.proofs.Common.{◌≡◌, ℕ, ◌+◌, ◌-◌, ◌<◌, ◌≤◌, Bool, List, [], ◌∷◌, ◌++◌, append_assoc, append-nil, drop}
-use Rattle.std.proofs.Common.{get_or, length, length-append, IsTrue, inl, inr, refl, sym, ◌∙◌, ap, subst, arith}
+use Rattle.std.proofs.Common.{get_or, map, length, length-append, IsTrue, inl, inr, refl, sym, ◌∙◌, ap, subst, arith}
 use Rattle.std.specs.List.{Contains}
-use Rattle.std.proofs.lemmas.List.{drop_more, drop_all, get_or-drop, length-drop}
+use Rattle.std.proofs.lemmas.List.{drop_more, drop_all, get_or-drop, length-drop, map-append}
 use Rattle.std.proofs.lemmas.List.Elements.{Contains-get_or}
 use Rattle.h5_base.specs.declared.extent.MemClass.{MemClass}
 use Rattle.h5_base.specs.declared.extent.Region.{Region}
 use Rattle.outside.specs.Array.{Array, Ends, over, SameOutside}
 use Rattle.outside.specs.Blocks.{Block, most_blocks}
-use Rattle.outside.specs.Space.{AreCovered, AreRegions, HasRoom, IsReady, RaisedInPart, SpaceView, raised}
+use Rattle.outside.specs.Space.{AreCovered, AreRegions, HasRoom, IsReady, IsSound, RaisedInPart, SpaceView}
+use Rattle.outside.specs.Space.{raised}
 use Rattle.block_space.specs.Blocks.{Keeps}
+use Rattle.block_space.specs.Written.{TellsAllWritten, whole_block}
 use Rattle.block_space.specs.declared.blocks.Blocks.{Blocks}
 use Rattle.block_space.specs.declared.plan.Take.{Take}
 use Rattle.block_space.specs.Plans.{AreFilled, LiesBesideTake, RisenInPart, ends_after, padded_to, rounded, taken_blocks}
 use Rattle.block_space.specs.Plans.{with_takes}
 use Rattle.block_space.proofs.Ends.{EndsAsOne, ends_as_one, raised_itself, raised_up}
 use Rattle.block_space.proofs.Overlaid.{over_outside, padded_length}
+use Rattle.block_space.proofs.Pages.{tells_both, tells_none}
 use Rattle.block_space.proofs.Planned.{after_up, ends_with, filled_short, own_as_one, with_as_one}
 
 pub record Took (tells : Bool) (v w : SpaceView) (ts : List Take) (is : List (List ℕ)) (i : ℕ) : Type 0 where
@@ -38,6 +41,7 @@ pub record HasFound {V : Type 0} (view : V → SpaceView) (old now : Blocks V) (
   pub count : length blocks ≡ i
   pub rest : blocks ++ taken_blocks (view old.space).regions (view now.space).ends (drop i ts)
       ≡ taken_blocks (view old.space).regions (view old.space).ends ts
+  pub pages : TellsAllWritten (map whole_block blocks) (view old.space).committed (view now.space).committed
   pub kept : (met : List Block) → Keeps view old met → length met + length ts ≤ most_blocks
       → Keeps view now (met ++ blocks)
 
@@ -56,11 +60,13 @@ took_none tells v ts is room filled = record {
   beside = λ told a beside. refl;
 }
 
-pub found_none : {V : Type 0} (view : V → SpaceView) (old : Blocks V) (ts : List Take) → HasFound view old old ts 0
-found_none view old ts = record {
+pub found_none : {V : Type 0} (view : V → SpaceView) (old : Blocks V) (ts : List Take) (tells : Bool)
+    → IsSound tells (view old.space) → HasFound view old old ts 0
+found_none view old ts tells sound = record {
   blocks = [];
   count = refl;
   rest = refl;
+  pages = tells_none (view old.space).committed sound.revisions;
   kept = λ met keeps few. rw append-nil keeps;
 }
 
@@ -223,10 +229,12 @@ pub found_next : {V : Type 0} (view : V → SpaceView) (old now new : Blocks V) 
     (List ℕ)) (i : ℕ)
     (t : Take) (image : List ℕ) → Turn tells (view old.space) (view now.space) ts is i t image
     → (view new.space).ends ≡ ends_with (view now.space).regions (view now.space).ends t
+    → TellsAllWritten (record { start = (view now.space).ends t.class; len = rounded t.len } ∷ [])
+    (view now.space).committed (view new.space).committed
     → ((met : List Block) → Keeps view now met → length met < most_blocks
     → Keeps view new (met ++ record { start = (view now.space).ends t.class; len = t.len } ∷ []))
     → HasFound view old now ts i → HasFound view old new ts (i + 1)
-found_next view old now new tells ts is i t image turn ends takes found =
+found_next view old now new tells ts is i t image turn ends pages takes found =
     let block : Block = record { start = (view now.space).ends t.class; len = t.len } in
     let r = (view old.space).regions in
     record {
@@ -236,6 +244,10 @@ found_next view old now new tells ts is i t image turn ends takes found =
           ∙ ap (λ (e : Ends). found.blocks ++ block ∷ taken_blocks r e (drop (i + 1) ts))
           (ends ∙ ap (λ s. ends_with s (view now.space).ends t) turn.took.regions)
           ∙ ap (λ ys. found.blocks ++ taken_blocks r (view now.space).ends ys) (sym turn.split) ∙ found.rest;
+      pages = subst (λ (bs : List Block). TellsAllWritten bs (view old.space).committed (view new.space).committed)
+          (sym (map-append whole_block found.blocks (block ∷ [])))
+          (tells_both (map whole_block found.blocks) (whole_block block ∷ []) (view old.space).committed
+          (view now.space).committed (view new.space).committed found.pages pages);
       kept = λ met keeps few. subst (Keeps view new) (append_assoc met found.blocks (block ∷ []))
           (takes (met ++ found.blocks) (found.kept met keeps few)
           (omega (arith, length-append met found.blocks, found.count, few, turn.here)));

@@ -2,3 +2,4 @@ pub mod Catalogue
 pub mod Blocks
 pub mod Plans
 pub mod Reserved
+pub mod Written

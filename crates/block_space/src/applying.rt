@@ -4,11 +4,13 @@ ghost use Rattle.outside.specs.Array.{SameOutside, over};
 ghost use Rattle.outside.specs.Blocks.{Block, most_blocks};
 ghost use Rattle.outside.specs.Space.{HasCauses, IsReady, RaisedInPart, raised};
 ghost use Rattle.block_space.specs.Blocks.{HasRoomNow, Keeps, spare_of, space_of};
+ghost use Rattle.block_space.specs.Catalogue.{blocks_of};
 ghost use Rattle.block_space.specs.Plans.{AreAsLong, EndsBehindNeeds, FitsCatalogue, LiesBeside, LiesBesideTake, LiesBesideWrites};
 ghost use Rattle.block_space.specs.Plans.{LiesInOne, PlannedStays, RisenInPart, ends_after, padded_to, planned};
 ghost use Rattle.block_space.specs.Plans.{rounded, taken_blocks};
 ghost use Rattle.block_space.specs.Plans.{with_takes, with_writes};
 ghost use Rattle.block_space.specs.Reserved.{IsReserved};
+ghost use Rattle.block_space.specs.Written.{TellsAllWritten, planned_blocks, raised_blocks};
 ghost use Rattle.h5_base.specs.declared.extent.Extent.{Extent};
 ghost use Rattle.h5_base.specs.declared.extent.MemClass.{MemClass};
 
@@ -45,6 +47,9 @@ impl<V: Space> Blocks<V> {
             (V.view (space_of self.new)).ends }
         ensures history { IsTrue V.tells
             → OnOk result ((V.view (space_of self.new)).history ≡ (V.view (space_of self.old)).history) }
+        ensures pages { OnOk result (TellsAllWritten
+            (record { start = (V.view (space_of self.old)).ends take.class; len = rounded take.len } ∷ [])
+            (V.view (space_of self.old)).committed (V.view (space_of self.new)).committed) }
         ensures spare { spare_of self.old ≤ spare_of self.new + 1 }
         ensures room { OnOk result (HasRoomNow V.view self.new) }
         ensures stands { OnOk result (V.Stands (space_of self.new)) }
@@ -82,6 +87,9 @@ impl<V: Space> Blocks<V> {
             plan.now.takes (V.view (space_of self.new)).ends }
         ensures history { IsTrue V.tells
             → OnOk result ((V.view (space_of self.new)).history ≡ (V.view (space_of self.old)).history) }
+        ensures pages { OnOk result (TellsAllWritten
+            (raised_blocks (V.view (space_of self.old)).regions (V.view (space_of self.old)).ends plan.now.takes)
+            (V.view (space_of self.old)).committed (V.view (space_of self.new)).committed) }
         ensures spare { spare_of self.old ≤ spare_of self.new + length plan.now.takes }
         ensures room { OnOk result (HasRoomNow V.view self.new) }
         ensures stands { OnOk result (V.Stands (space_of self.new)) }
@@ -117,6 +125,9 @@ impl<V: Space> Blocks<V> {
             → (V.view (space_of self.new)).array a ≡ (V.view (space_of self.old)).array a) }
         ensures history { IsTrue V.tells
             → OnOk result ((V.view (space_of self.new)).history ≡ (V.view (space_of self.old)).history) }
+        ensures pages { OnOk result (TellsAllWritten
+            (blocks_of plan.now.writes)
+            (V.view (space_of self.old)).committed (V.view (space_of self.new)).committed) }
         ensures spare { spare_of self.new ≡ spare_of self.old }
         ensures room { OnOk result (HasRoomNow V.view self.new) }
         ensures stands { OnOk result (V.Stands (space_of self.new)) }
@@ -155,6 +166,9 @@ impl<V: Space> Blocks<V> {
             plan.now.takes (V.view (space_of self.new)).ends }
         ensures history { IsTrue V.tells
             → OnOk result ((V.view (space_of self.new)).history ≡ (V.view (space_of self.old)).history) }
+        ensures pages { OnOk result (TellsAllWritten
+            (planned_blocks (V.view (space_of self.old)).regions (V.view (space_of self.old)).ends plan.now)
+            (V.view (space_of self.old)).committed (V.view (space_of self.new)).committed) }
         ensures spare { spare_of self.old ≤ spare_of self.new + plan.now.needs.blocks }
         ensures room { OnOk result (HasRoomNow V.view self.new) }
         ensures stands { OnOk result (V.Stands (space_of self.new)) }

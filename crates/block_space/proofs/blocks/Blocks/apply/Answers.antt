@@ -1,9 +1,12 @@
 use Rattle.std.proofs.Common.{◌≡◌, ℕ, ◌++◌, ◌∙◌, length, drop, ap}
 use Rattle.std.proofs.lemmas.List.Elements.{Contains-append_left}
 use Rattle.outside.specs.Array.{Array}
+use Rattle.block_space.specs.Catalogue.{blocks_of}
+use Rattle.block_space.specs.Written.{TellsAllWritten, raised_blocks}
 use Rattle.block_space.specs.Plans.{LiesBeside, LiesBesideWrites, taken_blocks}
 use Rattle.block_space.proofs.Planned.{takes_stay}
-use Rattle.block_space.proofs.Stopped.{on_err_then, on_ok}
+use Rattle.block_space.proofs.Pages.{tells_both}
+use Rattle.block_space.proofs.Stopped.{on_err_then, on_ok, on_ok_then}
 use Rattle.block_space.proofs.blocks.Blocks.apply.Goals as goal
 
 pub write_all-requires-clause-block : goal.write_all-requires-clause-block
@@ -48,3 +51,13 @@ pub returns-clause-edited : goal.returns-clause-edited
 returns-clause-edited g c =
     g.met.V.Space.edited_further _ _ _ c.in_ok-take_all.ensures.steady c.take_all.ensures.edited
     c.write_all.ensures.edited
+
+pub returns-clause-pages : goal.returns-clause-pages
+returns-clause-pages g c =
+    let v = g.V.Space.view c.args.self.now.space in
+    let mid = g.V.Space.view c.take_all.new.self.space in
+    let new = g.V.Space.view c.write_all.new.self.space in
+    let plan = c.args.plan.now in
+    on_ok_then c.write_all.result (TellsAllWritten (blocks_of plan.writes) mid.committed new.committed) _
+    (tells_both (raised_blocks v.regions v.ends plan.takes) (blocks_of plan.writes) v.committed mid.committed
+    new.committed c.in_ok-take_all.ensures.pages) c.write_all.ensures.pages

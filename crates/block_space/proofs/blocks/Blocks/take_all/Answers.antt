@@ -1,7 +1,9 @@
-use Rattle.std.proofs.Common.{ℕ, ◌+◌, ◌++◌, ◌∙◌, ◌<◌, drop, get_or, length, length-append, ap, subst, arith, refl}
+use Rattle.std.proofs.Common.{List, map, ℕ, ◌+◌, ◌++◌, ◌∙◌, ◌<◌, drop, get_or, length, length-append, ap, subst, arith, refl}
 use Rattle.h5_base.specs.declared.extent.MemClass.TheVariants.{Super}
 use Rattle.h5_base.specs.declared.kinds.BlockKind.{BlockKind}
+use Rattle.outside.specs.Blocks.{Block}
 use Rattle.block_space.specs.Blocks.{Keeps}
+use Rattle.block_space.specs.Written.{TellsAllWritten, whole_block}
 use Rattle.block_space.proofs.Readied.{all_ready}
 use Rattle.block_space.proofs.Stopped.{on_err}
 use Rattle.block_space.proofs.Taking.{AllReady, Turn, beside_still, found_all, found_next, found_none, image_there}
@@ -69,7 +71,8 @@ loop-i-init g c =
       copies = refl;
       spare = omega arith;
       took = took_none g.V.Space.tells (g.V.Space.view c.args.self.now.space) _ _ r.3.room r.2.filled;
-      found = found_none g.V.Space.view c.args.self.now c.args.plan.now.takes;
+      found = found_none g.V.Space.view c.args.self.now c.args.plan.now.takes g.V.Space.tells
+          (g.met.V.Space.sound _ c.requires.stands);
     }
 
 pub take_with-requires-clause-some : goal.take_with-requires-clause-some
@@ -128,7 +131,8 @@ loop-i-preserved g c =
           (λ told. c.in_ok-take_with.ensures.array told);
       found = found_next g.V.Space.view c.args.self.now c.loop-i.self c.take_with.new.self g.V.Space.tells _ _
           c.loop-i.i _ _ own
-          c.in_ok-take_with.ensures.ends c.in_ok-take_with.ensures.found invariant.found;
+          c.in_ok-take_with.ensures.ends c.in_ok-take_with.ensures.pages c.in_ok-take_with.ensures.found
+          invariant.found;
     }
 
 pub returns-clause-found : goal.returns-clause-found
@@ -161,3 +165,12 @@ returns-in_err-take_with-clause-spare g c =
 pub returns-clause-ends_in_part : goal.returns-clause-ends_in_part
 returns-clause-ends_in_part g c = took_risen g.V.Space.tells _ _ _ _ c.loop-i.i
     (omega (arith, c.loop-i-test.false, ap length c.as_slice-takes.ensures)) c.loop-i.invariant.took
+
+pub returns-clause-pages : goal.returns-clause-pages
+returns-clause-pages g c =
+    let v = g.V.Space.view c.args.self.now.space in
+    let now = g.V.Space.view c.loop-i.self.space in
+    let found = c.loop-i.invariant.found in
+    let all = found_all g.V.Space.view c.args.self.now c.loop-i.self c.args.plan.now.takes c.loop-i.i
+    (omega (arith, c.loop-i-test.false, ap length c.as_slice-takes.ensures)) found in
+    subst (λ (bs : List Block). TellsAllWritten (map whole_block bs) v.committed now.committed) all found.pages

@@ -6,6 +6,7 @@ use Rattle.outside.specs.Blocks.{Block}
 use Rattle.outside.specs.Space.{IsWritten}
 use Rattle.block_space.specs.Plans.{padded_to, rounded}
 use Rattle.block_space.proofs.Overlaid.{over_none, over_raised, outside_after, raised_outside}
+use Rattle.block_space.proofs.Pages.{patched_tells, raised_tells}
 use Rattle.block_space.proofs.Stopped.{on_ok, on_ok_then}
 use Rattle.block_space.proofs.blocks.Blocks.take_with.Goals as goal
 
@@ -81,3 +82,24 @@ returns-clause-in_part g c = λ told.
 pub returns-clause-edited : goal.returns-clause-edited
 returns-clause-edited g c = g.met.V.Space.edited_further _ _ _ c.in_ok-at.ensures.steady c.take.ensures.edited
     c.patch.ensures.edited
+
+pub returns-then-is_empty-clause-pages : goal.returns-then-is_empty-clause-pages
+returns-then-is_empty-clause-pages g c =
+    let v = g.V.Space.view c.args.self.now.space in
+    let t = c.args.take in
+    raised_tells (v.ends t.class) (rounded t.len) v.committed (g.V.Space.view c.take.new.self.space).committed
+    c.in_ok-at.ensures.done.pages
+
+pub returns-clause-pages : goal.returns-clause-pages
+returns-clause-pages g c =
+    let v = g.V.Space.view c.args.self.now.space in
+    let mid = g.V.Space.view c.take.new.self.space in
+    let new = g.V.Space.view c.patch.new.self.space in
+    let t = c.args.take in
+    let short = c.requires.short in
+    let at = c.in_ok-at.ensures.at in
+    on_ok_then c.patch.result (IsWritten g.V.Space.tells c.in_ok-at.at c.args.image.now mid new) _
+    (λ done. patched_tells (v.ends t.class) (rounded t.len) c.in_ok-at.at (length c.args.image.now)
+    v.committed mid.committed new.committed (omega (arith, at)) (omega (arith, at, short))
+    c.in_ok-at.ensures.done.pages done.pages)
+    c.patch.ensures.done

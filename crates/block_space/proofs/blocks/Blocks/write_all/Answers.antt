@@ -1,8 +1,8 @@
-use Rattle.std.proofs.Common.{◌∙◌, get_or, length, arith, refl}
+use Rattle.std.proofs.Common.{◌∙◌, get_or, length, ap, arith, refl}
 use Rattle.outside.specs.Array.{SameOutside}
 use Rattle.block_space.proofs.Overlaid.{outside_after}
 use Rattle.block_space.proofs.Stopped.{err_has, on_err}
-use Rattle.block_space.proofs.Written.{Turn, image_long, next_turn, write_ready, wrote_next, beside_still}
+use Rattle.block_space.proofs.Written.{Turn, image_long, next_turn, write_ready, wrote_next, wrote_pages, beside_still}
 use Rattle.block_space.proofs.blocks.Blocks.write_all.Given.{Over}
 use Rattle.block_space.proofs.blocks.Blocks.write_all.Goals as goal
 use Rattle.block_space.proofs.blocks.Blocks.write_all.Goals.{After-as_slice}
@@ -59,7 +59,12 @@ loop-i-preserved g c =
       copies = c.in_ok-patch.ensures.cause.copy_calm (λ no. absurd cc) ∙ invariant.copies;
       wrote = wrote_next g.V.Space.tells v mid _ _ c.loop-i.i _ c.as_slice.result.now
           (turn g (goal.at.loop-i-preserved g c).After-as_slice) new kind.writable c.in_ok-patch.ensures.done.prepared
-          (λ told. (c.in_ok-patch.ensures.done.wrote told).history) c.in_ok-patch.ensures.room c.patch.ensures.ends (λ told. (c.in_ok-patch.ensures.done.wrote told).array);
+          (λ told. (c.in_ok-patch.ensures.done.wrote told).history) c.in_ok-patch.ensures.done.pages
+          c.in_ok-patch.ensures.room c.patch.ensures.ends (λ told. (c.in_ok-patch.ensures.done.wrote told).array);
       spare = c.patch.ensures.spare ∙ invariant.spare;
       kept = λ met keeps. c.patch.ensures.kept met (invariant.kept met keeps);
     }
+
+pub returns-clause-pages : goal.returns-clause-pages
+returns-clause-pages g c = wrote_pages g.V.Space.tells _ _ _ _ c.loop-i.i
+    (omega (arith, c.loop-i-test.false, ap length c.as_slice-writes.ensures)) c.loop-i.invariant.wrote
