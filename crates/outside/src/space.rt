@@ -139,7 +139,8 @@ pub trait Space: Kept {
             → (view self.new).ends ≡ raised (view self.old).regions (view self.old).ends class end }
         ensures in_part { IsTrue tells → OnErr result (SameOutside ((view self.old).ends class)
             (end - (view self.old).ends class) (view self.old).array (view self.new).array) }
-        ensures ends_in_part { RaisedInPart (view self.old).regions (view self.old).ends class end (view self.new).ends }
+        ensures ends_in_part { RaisedInPart (view self.old).regions (view self.old).ends class end
+            (view self.new).ends }
         ensures stands { OnOk result (Stands self.new) }
         ensures cause { HasCauses (faults self.old) (faults self.new) (copy_faults self.old) (copy_faults self.new)
             result }
