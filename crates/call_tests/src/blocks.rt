@@ -1,15 +1,19 @@
 // The catalogue of a file in memory, and an edit of it; and the room in a space of two regions.
-ghost use Rattle.std.specs.Prelude.{◌≡◌, ◌^◌, ◌<◌, ◌∷◌, [], List, None, IsTrue, IfOk, OnOk};
+ghost use Rattle.std.specs.Prelude.{◌≡◌, ◌+◌, ◌^◌, ◌<◌, ◌∷◌, [], List, IsTrue, IfOk, OnOk};
+ghost use Rattle.h5_base.specs.declared.extent.MemClass.{MemClass};
 ghost use Rattle.outside.specs.Blocks.{Block};
 ghost use Rattle.block_space.specs.Blocks.{Keeps, space_of};
-ghost use Rattle.block_space.specs.Plans.{FitsCatalogue, all_needed, planned};
+ghost use Rattle.block_space.specs.Plans.{FitsCatalogue, all_needed, need_of, planned};
 
 use crate::files::{holds, space_of_file};
 use crate::regions::TwoRegions;
-use block_space::{Blocks, EditPlan, Needs, ReserveStop, Take, reserved_covers};
-use h5_base::{BlockKind, Bytes, Extent, List, MemClass};
+use block_space::{
+    Blocks, EditPlan, Needs, ReserveStop, Take, ends_behind_needs, reserved_covers,
+    room_in_any_order,
+};
+use h5_base::{BlockKind, Bytes, Comment, Extent, List, MemClass};
 use mem_store::MemStore;
-use outside::Space;
+use outside::{CommitAnswer, Space};
 use plain_space::PlainSpace;
 use std::alloc::Global;
 use std::test::Fail;
@@ -89,19 +93,26 @@ fn plan(alloc: Global) -> Result<EditPlan, Fail>
     })
 }
 
-// Reserves what a plan needs, and applies it.
+// Reserves what a plan needs, and applies it, where there is room for its ranges.
 fn edit<V: Space>(alloc: Global, blocks: &mut Blocks<V>, plan: EditPlan) -> Result<(), Fail>
     requires stands { V.Stands (space_of blocks.old) }
     requires writable { IsTrue (V.view (space_of blocks.old)).writable }
-    requires without { (V.view (space_of blocks.old)).committed ≡ None }
     requires fits { (met : List Block) × Keeps V.view blocks.old met × FitsCatalogue met plan }
     ensures array { IsTrue V.tells → OnOk result ((V.view (space_of blocks.new)).array
         ≡ planned (V.view (space_of blocks.old)).regions (V.view (space_of blocks.old)).ends plan
         (V.view (space_of blocks.old)).array) }
+    ensures ends { OnOk result ((c : MemClass) → (V.view (space_of blocks.new)).ends c
+        ≡ (V.view (space_of blocks.old)).ends c + need_of (V.view (space_of blocks.old)).regions plan.needs c) }
 {
     let writes = Vec::from_slice(alloc, plan.writes.as_slice())?;
     blocks.reserve(alloc, &plan.needs, &writes)?;
+    let ranges = blocks.ranges(alloc, &plan.needs, &writes)?;
+    if !blocks.space().room_left(&ranges) {
+        return Err(Fail::new("no room for revisions"));
+    }
     reserved_covers();
+    room_in_any_order();
+    ends_behind_needs();
     blocks.apply(&plan)?;
     Ok(())
 }
@@ -122,6 +133,26 @@ fn plan_is_applied(rt: HostRuntime) -> Result<(), Fail> {
     let store = edited(alloc)?.into_store();
     let want = b"..XYZ.....45........abcde\0\0\0\0\0\0\0\0\0\0\0ABCDEFGHI\0\0\0\0\0\0\0";
     assert!(rt; holds(alloc, &store, want));
+    Ok(())
+}
+
+// Makes the files of a space last, and asks for a revision.
+fn last<V: Space>(blocks: &mut Blocks<V>, comment: &Comment) -> Result<CommitAnswer, Fail>
+    requires stands { V.Stands (space_of blocks.old) }
+    requires writable { IsTrue (V.view (space_of blocks.old)).writable }
+{
+    blocks.settle()?;
+    Ok(blocks.commit(comment, 0)?)
+}
+
+/// A file without revisions is settled as it is, and none is made.
+#[test]
+fn settled_without_revisions(rt: HostRuntime) -> Result<(), Fail> {
+    let alloc = rt.alloc();
+    let mut blocks = Blocks::new(alloc, space_of_file(alloc, b"abcdef")?);
+    let comment = Comment::new(alloc, b"one")?;
+    assert!(rt; last(&mut blocks, &comment)? == CommitAnswer::NoOnion);
+    assert!(rt; holds(alloc, &blocks.finish().into_store(), b"abcdef"));
     Ok(())
 }
 
