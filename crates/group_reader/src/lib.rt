@@ -18,3 +18,4 @@ mod text;
 pub use budget::TextBudget;
 pub use link::{FoundLink, LinkTarget};
 pub use links::read_links;
+pub use text::{text_at, text_before};

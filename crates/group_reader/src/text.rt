@@ -5,7 +5,7 @@ ghost use Rattle.file_model.specs.RefusedGroups.{HasNoText};
 ghost use Rattle.group_reader.specs.Texts.{EndTexts};
 
 /// The text that stands in a heap's segment at an offset, ended by a NUL.
-pub(crate) fn text_at(segment: &[u8], at: u64) -> Option<&[u8]>
+pub fn text_at(segment: &[u8], at: u64) -> Option<&[u8]>
     ensures found { IfSome result (λ text. HasText segment.now at text.now) }
     ensures none { IfNone result (HasNoText segment.now at) }
 {
@@ -32,7 +32,7 @@ pub(crate) fn texts_end(segment: &[u8]) -> usize
 
 /// Whether the text that stands in a heap's segment at an offset comes before a name, by unsigned bytes. Of the text no
 /// more bytes are read than the name has: many keys may name one long text.
-pub(crate) fn text_before(segment: &[u8], at: u64, name: &[u8]) -> bool
+pub fn text_before(segment: &[u8], at: u64, name: &[u8]) -> bool
     requires inside { at ≤ length segment.now }
     ensures { (text : List ℕ) → HasText segment.now at text → result ≡ name_lt text name.now }
 {
