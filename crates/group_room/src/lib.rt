@@ -1,0 +1,2 @@
+//! What one link more takes in a group.
+#![tactic(auto)]
