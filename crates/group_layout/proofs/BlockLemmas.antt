@@ -1,6 +1,6 @@
 -- The blocks of rows that are laid over one another are those of their nodes.
-use Rattle.std.proofs.Common.{◌≡◌, ℕ, zero, suc, ◌*◌, ◌≤◌, List, [], ◌∷◌, ◌++◌, length, take, drop, map, refl, sym}
-use Rattle.std.proofs.Common.{◌∙◌, ap, subst}
+use Rattle.std.proofs.Common.{◌≡◌, ℕ, suc, ◌*◌, ◌≤◌, List, [], ◌∷◌, ◌++◌, length, take, drop, map, refl, sym}
+use Rattle.std.proofs.Common.{ap, subst}
 use Rattle.std.specs.List.Sorted.{IsPermutation}
 use Rattle.std.proofs.lemmas.List.{append_assoc}
 use Rattle.std.proofs.lemmas.List.Sorted.{IsPermutation-refl, IsPermutation-trans, IsPermutation-cons}
@@ -9,20 +9,12 @@ use Rattle.std.proofs.lemmas.List.Sorted.{IsPermutation-append_comm}
 use Rattle.outside.specs.Blocks.{Block}
 use Rattle.h5_base.specs.Fields.{undefined}
 use Rattle.node_codec.specs.declared.snod.SnodEntry.{SnodEntry}
-use Rattle.file_model.specs.Groups.{Ks, Found, GroupIndex, index_blocks, blocks_within, node_block, leaf_block}
+use Rattle.file_model.specs.Groups.{Ks, Found, GroupIndex, blocks_within, node_block, leaf_block}
 use Rattle.group_layout.specs.Rows.{laid, keys_above, row_above, rows_above, row_blocks, HaveRoom}
 use Rattle.group_layout.specs.Leaves.{leaves}
 use Rattle.group_layout.specs.Laws.{RowsBlocks}
-use Rattle.group_layout.proofs.RowLemmas.{left_over, none_left}
+use Rattle.group_layout.proofs.RowLemmas.{left_over, none_left, gathered_parts}
 use Rattle.group_layout.proofs.RowsLemmas.{row_length}
-
-blocks_parts : (ks : Ks) (room : ℕ) (xs : List GroupIndex)
-    → blocks_within ks (laid (take room xs)) ++ blocks_within ks (laid (drop room xs)) ≡ blocks_within ks (laid xs)
-blocks_parts ks zero xs = refl
-blocks_parts ks (suc room) [] = refl
-blocks_parts ks (suc room) (x ∷ xs) =
-    append_assoc (index_blocks ks x) (blocks_within ks (laid (take room xs))) (blocks_within ks (laid (drop room xs)))
-    ∙ ap (λ (l : List Block). index_blocks ks x ++ l) (blocks_parts ks room xs)
 
 turned : (ps ms ds : List Block) → IsPermutation (ps ++ (ms ++ ds)) (ms ++ (ps ++ ds))
 turned ps ms ds =
@@ -44,7 +36,8 @@ row_is ks level room before (at ∷ ats) keys xs le =
     let later = row_is ks level room at ats rest (drop room xs) (left_over room (length ats) xs le) in
     let moved = IsPermutation-trans _ _ _ (IsPermutation-append_right ps _ _ later) (turned ps ms ds) in
     let ws = blocks_within ks (laid (row_above level room at ats rest (drop room xs))) in
-    let whole = subst (λ (bs : List Block). IsPermutation (ps ++ ws) (ms ++ bs)) (blocks_parts ks room xs) moved in
+    let both = gathered_parts (λ n. node_block ks n.at ∷ []) (λ s. leaf_block ks s.at ∷ []) room xs in
+    let whole = subst (λ (bs : List Block). IsPermutation (ps ++ ws) (ms ++ bs)) both moved in
     IsPermutation-cons (node_block ks at) _ _ whole
 
 pub rows_blocks : RowsBlocks

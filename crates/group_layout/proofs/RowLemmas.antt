@@ -4,9 +4,9 @@ use Rattle.std.proofs.Common.{map, refl, sym, ◌∙◌, ap, subst, arith}
 use Rattle.std.proofs.lemmas.List.{append_assoc, length-drop}
 use Rattle.outside.specs.Array.{Array}
 use Rattle.object_model.specs.Tree.{Name, name_lt}
-use Rattle.file_model.specs.Index.{each}
-use Rattle.file_model.specs.Groups.{Ks, GroupIndex, AreIndexes, AreKeyed, AreBetween, Found, address_of, links_within}
-use Rattle.file_model.specs.Groups.{links_under}
+use Rattle.file_model.specs.Index.{each, gather, gather_in}
+use Rattle.file_model.specs.Groups.{Ks, GroupIndex, AreIndexes, AreKeyed, AreBetween, address_of, links_within}
+use Rattle.file_model.specs.Groups.{links_under, TreeNode, LeafNode}
 use Rattle.group_layout.specs.Rows.{laid, keys_above, row_above, AreTexts, AreBounded, AreSpelled}
 use Rattle.group_layout.specs.Laws.{RowAbove}
 use Rattle.group_layout.proofs.NameOrder.{le_trans, le_itself, between_wider, between_both}
@@ -59,13 +59,14 @@ stand_drop b ks s height zero xs h = h
 stand_drop b ks s height (suc room) [] h = tt
 stand_drop b ks s height (suc room) (x ∷ xs) h = stand_drop b ks s height room xs h.1
 
-links_parts : (room : ℕ) (xs : List GroupIndex)
-    → links_within (laid (take room xs)) ++ links_within (laid (drop room xs)) ≡ links_within (laid xs)
-links_parts zero xs = refl
-links_parts (suc room) [] = refl
-links_parts (suc room) (x ∷ xs) =
-    append_assoc (links_under x) (links_within (laid (take room xs))) (links_within (laid (drop room xs)))
-    ∙ ap (λ (l : List Found). links_under x ++ l) (links_parts room xs)
+-- what is gathered of two parts of a row
+pub gathered_parts : {A : Type 0} (f : TreeNode → List A) (g : LeafNode → List A) (room : ℕ) (xs : List GroupIndex)
+    → gather_in f g (laid (take room xs)) ++ gather_in f g (laid (drop room xs)) ≡ gather_in f g (laid xs)
+gathered_parts f g zero xs = refl
+gathered_parts f g (suc room) [] = refl
+gathered_parts {A} f g (suc room) (x ∷ xs) =
+    append_assoc (gather f g x) (gather_in f g (laid (take room xs))) (gather_in f g (laid (drop room xs)))
+    ∙ ap (λ (l : List A). gather f g x ++ l) (gathered_parts f g room xs)
 
 each_laid : (xs : List GroupIndex) → each address_of (laid xs) ≡ map address_of xs
 each_laid [] = refl
@@ -177,14 +178,17 @@ above_stand b ks s height room before (at ∷ ats) keys ns xs stand t h spelled 
           (stand_drop b ks s height room xs stand) (texts_drop s m keys ns t) (bounded_drop room ns xs h) spelled.1,
     )
 
-above_links : (level room before : ℕ) (ats keys : List ℕ) (xs : List GroupIndex) → length xs ≤ room * length ats
-    → links_within (laid (row_above level room before ats keys xs)) ≡ links_within (laid xs)
-above_links level room before [] keys xs le =
-    ap (λ (ys : List GroupIndex). links_within (laid ys)) (sym (none_left room xs le))
-above_links level room before (at ∷ ats) keys xs le =
-    let later = above_links level room at ats (drop (length (take room xs)) keys) (drop room xs)
+-- what is gathered of the symbol table nodes alone
+pub gathered_above : {A : Type 0} (g : LeafNode → List A) (level room before : ℕ) (ats keys : List ℕ)
+    (xs : List GroupIndex) → length xs ≤ room * length ats
+    → gather_in (λ n. []) g (laid (row_above level room before ats keys xs)) ≡ gather_in (λ n. []) g (laid xs)
+gathered_above {A} g level room before [] keys xs le =
+    ap (λ (ys : List GroupIndex). gather_in {A = A} (λ n. []) g (laid ys)) (sym (none_left room xs le))
+gathered_above {A} g level room before (at ∷ ats) keys xs le =
+    let later = gathered_above g level room at ats (drop (length (take room xs)) keys) (drop room xs)
     (left_over room (length ats) xs le) in
-    ap (λ (l : List Found). links_within (laid (take room xs)) ++ l) later ∙ links_parts room xs
+    ap (λ (l : List A). gather_in (λ n. []) g (laid (take room xs)) ++ l) later
+    ∙ gathered_parts (λ n. []) g room xs
 
 pub row_in_order : RowAbove
 row_in_order b ks s height before ats keys xs row le spelled = (
@@ -195,5 +199,5 @@ row_in_order b ks s height before ats keys xs row le spelled = (
     texts = above_texts s (2 * ks.internal) ats keys row.names xs row.texts;
     bounded = above_bounded height (2 * ks.internal) before ats keys row.names xs row.bounded le;
   },
-  above_links height (2 * ks.internal) before ats keys xs le,
+  gathered_above (λ s. s.links) height (2 * ks.internal) before ats keys xs le,
 )

@@ -1,5 +1,6 @@
 -- What rows that are laid one above the other are: an index with the same links.
-use Rattle.std.specs.Prelude.{◌≡◌, ℕ, suc, ◌+◌, ◌*◌, ◌≤◌, List, [], ◌∷◌, ◌++◌, length, map, slice_index}
+use Rattle.std.specs.Prelude.{◌≡◌, ◌⊎◌, ℕ, suc, ◌+◌, ◌*◌, ◌<◌, ◌≤◌, List, [], ◌∷◌, ◌++◌, length, map, slice_index}
+use Rattle.std.specs.List.{Contains, flat_map}
 use Rattle.outside.specs.Array.{Array}
 use Rattle.h5_base.specs.Fields.{undefined}
 use Rattle.file_model.specs.Index.{row_in, AreSiblings}
@@ -7,8 +8,10 @@ use Rattle.node_codec.specs.declared.snod.SnodEntry.{SnodEntry}
 use Rattle.object_model.specs.Tree.{Name, AreOrdered}
 use Rattle.file_model.specs.Groups.{Ks, GroupIndex, TreeNode, Found, HasText, AreLinks, IsIndex, links_within}
 use Rattle.file_model.specs.Groups.{links_under, address_of, blocks_within, index_blocks, node_block, leaf_block}
+use Rattle.file_model.specs.Groups.{entry_offsets, index_offsets}
 use Rattle.outside.specs.Blocks.{Block}
 use Rattle.std.specs.List.Sorted.{IsPermutation}
+use Rattle.group_room.specs.Index.{entries_in, leaf_ats}
 use Rattle.group_layout.specs.Leaves.{leaves, leaf_keys, AreLeavesSpelled}
 use Rattle.file_model.specs.WellKept.{BeginsEmpty, IsKeptGroup}
 use Rattle.group_layout.specs.Rows.{laid, keys_above, row_above, rows_above, HaveRoom, IsRow, AreSpelled, AllSpelled}
@@ -63,13 +66,18 @@ RowsBlocks = (ks : Ks) (level room : ℕ) (rows : List (List ℕ)) (keys : List 
     → IsPermutation (blocks_within ks (laid (rows_above level room rows keys xs)))
     (row_blocks ks rows ++ blocks_within ks (laid xs))
 
--- The links of a group as an index of this level above the symbol table nodes, whose root stands at this address.
-pub record IsLaid (b : Array) (ks : Ks) (segment : List ℕ) (tree level : ℕ) (fs : List Found) (bs : List Block)
-    : Type 0 where
+-- The entries and links of a group as an index of this level above the symbol table nodes, whose root stands at this
+-- address. Its least key is at the offset base, and each other key is the name of an entry.
+pub record IsLaid (b : Array) (ks : Ks) (segment : List ℕ) (tree level base : ℕ) (es : List SnodEntry)
+    (fs : List Found) (bs : List Block) : Type 0 where
   pub index : GroupIndex
   pub root : address_of index ≡ tree
   pub stands : IsIndex b ks segment (suc level) index
+  pub entries : entries_in index ≡ es
   pub links : links_under index ≡ fs
+  pub offsets : (o : ℕ) → Contains (index_offsets index) o → (o ≡ base) ⊎ Contains (flat_map entry_offsets es) o
+  pub used : (o : ℕ) → Contains (flat_map entry_offsets es) o → Contains (index_offsets index) o
+  pub base_used : 0 < length (leaf_ats index) → Contains (index_offsets index) base
   pub blocks : IsPermutation (index_blocks ks index) bs
   pub kept : slice_index segment 0 ≡ 0 → IsKeptGroup segment index
 
@@ -83,5 +91,5 @@ GroupLaid = (b : Array) (ks : Ks) (segment : List ℕ) (base : ℕ) (ats : List 
     → HaveRoom (2 * ks.internal) (length ats) (rows ++ (tree ∷ []) ∷ [])
     → AllSpelled b ks 0 (rows ++ (tree ∷ []) ∷ []) (leaf_keys (2 * ks.leaf) base ats es)
     (leaves (2 * ks.leaf) ats es fs)
-    → IsLaid b ks segment tree (length rows) fs
+    → IsLaid b ks segment tree (length rows) base es fs
     (node_block ks tree ∷ row_blocks ks rows ++ map (leaf_block ks) ats)

@@ -3,3 +3,5 @@ pub mod Leaves
 pub mod Growth
 pub mod Nodes
 pub mod Laws
+pub mod Laying
+pub mod Placing
