@@ -1,0 +1,11 @@
+pub mod ListLemmas
+pub mod OffsetLemmas
+pub mod CallLemmas
+pub mod GatherLemmas
+pub mod NodeLemmas
+pub mod LinkLemmas
+pub mod IndexLemmas
+pub mod RowLemmas
+pub mod TreeLemmas
+pub mod GroupLemmas
+pub mod HeldLemmas
