@@ -1,0 +1,11 @@
+pub mod EmptyName
+pub mod HeapTexts
+pub mod IndexRows
+pub mod Levels
+pub mod NeedLemmas
+pub mod PlaceLemmas
+pub mod RootRow
+pub mod RowBlocks
+pub mod RowRoom
+pub mod SpareRoom
+pub mod UsedIndex
