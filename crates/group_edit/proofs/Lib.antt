@@ -1,0 +1,16 @@
+pub mod Relaid
+pub mod InsertedBlocks
+pub mod InsertedHeap
+pub mod Inserted
+pub mod RemovedNodes
+pub mod RemovedTexts
+pub mod RemovedLinks
+pub mod Removed
+pub mod StandBlocks
+pub mod Stand
+pub mod PlacedTakes
+pub mod PlacedSegment
+pub mod PlacedPlan
+pub mod PlacedKept
+pub mod PlacedGrown
+pub mod Placed

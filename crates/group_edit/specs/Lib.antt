@@ -1,0 +1,7 @@
+pub mod Links
+pub mod Edited
+pub mod Grown
+pub mod Drafts
+pub mod Inserting
+pub mod Removing
+pub mod Laws
