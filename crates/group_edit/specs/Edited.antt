@@ -81,7 +81,8 @@ taken_ahead v ahead plan = taken_blocks v.regions (ends_ahead v ahead) plan.take
 abbrev pub planned_ahead : SpaceView → Needs → EditPlan → Array → Array
 planned_ahead v ahead plan c = planned v.regions (ends_ahead v ahead) plan c
 
--- The addresses of the blocks that the plan takes are numbers of 64 bits, and no address lies in two of them and of the group's.
+-- The addresses of the blocks that the plan takes are numbers of 64 bits, and no address lies in two of them and of
+-- the group's.
 pub record HasPlace (v : SpaceView) (ahead : Needs) (bs : List Block) (plan : EditPlan) : Type 0 where
   pub below : (x : Block) → Contains (taken_ahead v ahead plan) x → x.start + x.len < 2 ^ 64
   pub apart : AllApart (bs ++ taken_ahead v ahead plan)

@@ -1,5 +1,6 @@
 -- What a group is to be with one link fewer. Cited by the parts of what plans it.
-use Rattle.std.specs.Prelude.{◌≡◌, ℕ, ◌+◌, ◌<◌, ◌≤◌, ◌%◌, max, List, [], length, map, remove, slice_index_or, Option, Some}
+use Rattle.std.specs.Prelude.{◌≡◌, ℕ, ◌+◌, ◌<◌, ◌≤◌, ◌%◌, max, List, []}
+use Rattle.std.specs.Prelude.{length, map, remove, slice_index_or, Option, Some}
 use Rattle.std.specs.Option.{unwrap_or}
 use Rattle.std.specs.List.{flat_map}
 use Rattle.node_codec.specs.declared.snod.SnodEntry.{SnodEntry}
