@@ -3,3 +3,4 @@ pub mod Blocks
 pub mod Plans
 pub mod Reserved
 pub mod Written
+pub mod Applied

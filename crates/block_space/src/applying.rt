@@ -3,6 +3,7 @@ ghost use Rattle.std.specs.List.{Contains};
 ghost use Rattle.outside.specs.Array.{SameOutside, over};
 ghost use Rattle.outside.specs.Blocks.{Block, most_blocks};
 ghost use Rattle.outside.specs.Space.{HasCauses, IsReady, RaisedInPart, raised};
+ghost use Rattle.block_space.specs.Applied.{Applies};
 ghost use Rattle.block_space.specs.Blocks.{HasRoomNow, Keeps, spare_of, space_of};
 ghost use Rattle.block_space.specs.Catalogue.{blocks_of};
 ghost use Rattle.block_space.specs.Plans.{AreAsLong, EndsBehindNeeds, FitsCatalogue, LiesBeside, LiesBesideTake};
@@ -149,27 +150,7 @@ impl<V: Space> Blocks<V> {
         requires stands { V.Stands (space_of self.old) }
         requires reserved { (met : List Block) × Keeps V.view self.old met × FitsCatalogue met plan.now
             × IsReserved (V.view (space_of self.old)) (spare_of self.old) (length met) plan.now }
-        ensures array { IsTrue V.tells → OnOk result ((V.view (space_of self.new)).array
-            ≡ planned (V.view (space_of self.old)).regions (V.view (space_of self.old)).ends plan.now
-            (V.view (space_of self.old)).array) }
-        ensures ends { OnOk result ((V.view (space_of self.new)).ends
-            ≡ ends_after (V.view (space_of self.old)).regions (V.view (space_of self.old)).ends plan.now.takes) }
-        ensures found { OnOk result ((met : List Block) → Keeps V.view self.old met → FitsCatalogue met plan.now
-            → Keeps V.view self.new (met ++ taken_blocks (V.view (space_of self.old)).regions
-            (V.view (space_of self.old)).ends plan.now.takes)) }
-        ensures prepared { OnOk result ((V.view (space_of self.new)).prepared ≡ (V.view (space_of self.old)).prepared) }
-        ensures in_part { IsTrue V.tells → OnErr result ((a : ℕ) → LiesBeside (V.view (space_of self.old)).regions
-            (V.view (space_of self.old)).ends plan.now a
-            → (V.view (space_of self.new)).array a ≡ (V.view (space_of self.old)).array a) }
-        ensures ends_in_part { RisenInPart (V.view (space_of self.old)).regions (V.view (space_of self.old)).ends
-            plan.now.takes (V.view (space_of self.new)).ends }
-        ensures history { IsTrue V.tells
-            → OnOk result ((V.view (space_of self.new)).history ≡ (V.view (space_of self.old)).history) }
-        ensures pages { OnOk result (TellsAllWritten
-            (planned_blocks (V.view (space_of self.old)).regions (V.view (space_of self.old)).ends plan.now)
-            (V.view (space_of self.old)).committed (V.view (space_of self.new)).committed) }
-        ensures spare { spare_of self.old ≤ spare_of self.new + plan.now.needs.blocks }
-        ensures room { OnOk result (HasRoomNow V.view self.new) }
+        ensures applies { Applies V.view V.tells self.old self.new plan.now result }
         ensures stands { OnOk result (V.Stands (space_of self.new)) }
         ensures cause { HasCauses (V.faults (space_of self.old)) (V.faults (space_of self.new))
             (V.copy_faults (space_of self.old)) (V.copy_faults (space_of self.new)) result }

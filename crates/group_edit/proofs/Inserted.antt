@@ -41,8 +41,7 @@ use Rattle.group_edit.specs.Drafts.{new_fills, segment_fills}
 use Rattle.group_edit.specs.Edited.{AreNewBlocks, HasInserted, StaysGroup}
 use Rattle.group_edit.specs.Inserting.{IsInsertDraft, next_segment}
 use Rattle.group_edit.specs.Links.{HasName, HoldsGroup, IsNewName, entry_to, segment_in}
-use Rattle.group_edit.proofs.Relaid.{relaid}
-use Rattle.group_edit.specs.Laws.{IsRelaid}
+use Rattle.group_edit.proofs.Relaid.{IsRelaid, relaid}
 use Rattle.group_edit.proofs.InsertedHeap.{IsBase, IsWithName, base_text, entry_uses, first_same, links_there, one_more}
 use Rattle.group_edit.proofs.InsertedHeap.{ordered_with, stays_there, used_then}
 use Rattle.group_edit.proofs.InsertedBlocks.{in_place, moved_to, read_blocks, segment_taken}

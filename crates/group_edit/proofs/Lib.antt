@@ -1,3 +1,6 @@
+pub mod CheckedBlocks
+pub mod AppliedPlan
+pub mod GrownRows
 pub mod Relaid
 pub mod InsertedBlocks
 pub mod InsertedHeap
@@ -14,3 +17,10 @@ pub mod PlacedPlan
 pub mod PlacedKept
 pub mod PlacedGrown
 pub mod Placed
+pub mod BelowRead
+pub mod WritesWithin
+pub mod RemovedPlan
+pub mod InsertedPlan
+pub mod Behind
+pub mod DraftRoom
+pub mod DraftBelow

@@ -25,7 +25,7 @@ use Rattle.group_heap.specs.Greatest.{IsUsedBy}
 use Rattle.group_heap.proofs.TextLemmas.{used_by_last}
 use Rattle.group_layout.specs.Laying.{ats_of, new_blocks, new_takes, old_blocks, rows_of}
 use Rattle.group_layout.specs.Rows.{HaveRoom}
-use Rattle.group_facts.specs.Places.{ends_ahead}
+use Rattle.group_facts.specs.Places.{ends_ahead, taken_ahead}
 use Rattle.group_facts.specs.Rows.{blocks_by_rows}
 use Rattle.group_facts.proofs.RowRoom.{rows_have_room}
 use Rattle.group_facts.proofs.UsedIndex.{used_texts}
@@ -35,7 +35,6 @@ use Rattle.group_rows.specs.declared.group.GroupRead.{GroupRead}
 use Rattle.group_edit.specs.declared.draft.Draft.{Draft}
 use Rattle.group_edit.specs.declared.target.NewTarget.{NewTarget}
 use Rattle.group_edit.specs.Drafts.{IsPlanFor, segment_fills}
-use Rattle.group_edit.specs.Edited.{taken_ahead}
 use Rattle.group_edit.specs.Grown.{AreLeavesFor, kept_rows}
 use Rattle.group_edit.specs.Inserting.{IsInsertDraft, next_segment}
 use Rattle.group_edit.specs.Links.{HoldsGroup, segment_in}

@@ -74,7 +74,7 @@ is_kept b ks s level x leaves rows h leaves_are rows_are =
 
 -- ---- what is there
 
-no_nodes : (ks : Ks) (n : ℕ) → row_nodes ks (replicate n []) ≡ []
+pub no_nodes : (ks : Ks) (n : ℕ) → row_nodes ks (replicate n []) ≡ []
 no_nodes ks zero = refl
 no_nodes ks (suc n) = no_nodes ks n
 

@@ -1,7 +1,8 @@
 -- Entries that are laid out over nodes are a group's, with any heap that has their texts.
-use Rattle.std.proofs.Common.{◌≡◌, ℕ, ◌*◌, ◌≤◌, List, [], ◌∷◌, ◌++◌, length, map, drop}
+use Rattle.std.proofs.Common.{◌≡◌, ◌⊎◌, ℕ, ◌*◌, ◌<◌, ◌≤◌, List, [], ◌∷◌, ◌++◌, length, map, drop, flat_map}
 use Rattle.std.proofs.Common.{refl, sym, ◌∙◌, ap, subst, subst₂}
 use Rattle.std.specs.Prelude.{slice_index}
+use Rattle.std.specs.List.{Contains}
 use Rattle.std.specs.List.Sorted.{IsPermutation}
 use Rattle.std.proofs.lemmas.List.{append_assoc, length-map, map-append}
 use Rattle.std.proofs.lemmas.List.Sorted.{IsPermutation-refl, IsPermutation-sym, IsPermutation-trans}
@@ -13,9 +14,10 @@ use Rattle.node_codec.specs.Heap.{SpellsHeap}
 use Rattle.node_codec.specs.declared.heap.HeapHead.{HeapHead}
 use Rattle.node_codec.specs.declared.snod.SnodEntry.{SnodEntry}
 use Rattle.object_model.specs.Tree.{AreOrdered}
-use Rattle.file_model.specs.Groups.{AreLinks, Found, HasText, address_of, index_blocks}
+use Rattle.file_model.specs.Groups.{AreLinks, Found, HasText, address_of, entry_offsets, index_blocks, index_offsets}
+use Rattle.file_model.specs.WellKept.{IsKeptGroup}
 use Rattle.file_model.specs.Groups.{Ks, leaf_block, node_block}
-use Rattle.group_room.specs.Index.{leaf_ats}
+use Rattle.group_room.specs.Index.{entries_in, leaf_ats}
 use Rattle.group_layout.specs.Laying.{IsSpelledOut, ats_of, new_blocks, new_nodes, old_blocks, old_nodes, rows_of}
 use Rattle.group_layout.specs.Leaves.{leaf_keys, leaves}
 use Rattle.group_layout.specs.Nodes.{AllNodesSpelled}
@@ -26,7 +28,25 @@ use Rattle.group_layout.proofs.GroupLemmas.{group_laid_over}
 use Rattle.group_layout.proofs.NodeLemmas.{nodes_suffice}
 use Rattle.group_facts.specs.Heap.{names_of}
 use Rattle.group_rows.specs.declared.group.GroupAt.{GroupAt}
-use Rattle.group_edit.specs.Laws.{IsRelaid}
+use Rattle.group_edit.specs.Links.{HoldsGroup}
+
+-- The group that is laid out.
+pub record IsRelaid (c : Array) (g : GroupAt) (head : HeapHead) (base : ℕ) (index : IndexRows) (es : List SnodEntry)
+    (fs : List Found) : Type 0 where
+  pub blocks : List Block
+  pub new : HoldsGroup c g fs blocks
+  pub head_is : new.head ≡ head
+  pub level_is : new.level ≡ length index.rows
+  pub entries : entries_in new.index ≡ es
+  pub offsets : (o : ℕ) → Contains (index_offsets new.index) o → (o ≡ base) ⊎ Contains (flat_map entry_offsets es) o
+  pub used : (o : ℕ) → Contains (flat_map entry_offsets es) o → Contains (index_offsets new.index) o
+  pub base_used : 0 < length (leaf_ats new.index) → Contains (index_offsets new.index) base
+  pub leaves : IsPermutation (leaf_ats new.index) (ats_of index.leaves)
+  pub kept : slice_index (bytes_of c head.segment_at head.len) 0 ≡ 0
+      → IsKeptGroup (bytes_of c head.segment_at head.len) new.index
+  pub nodes : IsPermutation (index_blocks g.ks new.index) (old_blocks g.ks index ++ new_blocks g.ks index)
+  pub blocks_are : blocks ≡ record { start = g.heap_at; len = 32 } ∷ placed head.segment_at head.len
+      ++ index_blocks g.ks new.index
 
 -- ---- its blocks
 

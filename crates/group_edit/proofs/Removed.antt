@@ -29,8 +29,7 @@ use Rattle.group_edit.specs.declared.draft.Draft.{Draft}
 use Rattle.group_edit.specs.Edited.{HasRemoved, StaysGroup}
 use Rattle.group_edit.specs.Links.{HasName, HoldsGroup, segment_in}
 use Rattle.group_edit.specs.Removing.{IsRemoveDraft}
-use Rattle.group_edit.proofs.Relaid.{relaid}
-use Rattle.group_edit.specs.Laws.{IsRelaid}
+use Rattle.group_edit.proofs.Relaid.{IsRelaid, relaid}
 use Rattle.group_edit.proofs.RemovedNodes.{leaves_same, levels_same, new_same, old_same, one_entry_fewer, read_blocks}
 use Rattle.group_edit.proofs.RemovedNodes.{read_levels, read_room, read_rows_room, rows_same, same_blocks, same_nodes}
 use Rattle.group_edit.proofs.RemovedNodes.{some_leaf}
@@ -46,26 +45,26 @@ module _ (b : Array) (g : GroupAt) (name : Name) (read : GroupRead) (draft : Dra
       (blocks_by_rows g.ks read.leaves read.rows.items g.tree_at)
   nodes_there =
       subst (λ (bs : List Block). IsPermutation bs (blocks_by_rows g.ks read.leaves read.rows.items g.tree_at))
-      (sym (old_same g.ks g.tree_at read.leaves read.rows.items draft.index dr.index)) (IsPermutation-refl _)
+      (sym (old_same g.ks g.tree_at read.leaves read.rows.items draft.index dr.rest.index)) (IsPermutation-refl _)
 
   pub leaves_room : length draft.entries.items ≤ 2 * g.ks.leaf * length (ats_of draft.index.leaves)
   leaves_room =
       let fewer = length-remove read.entries.items dr.place dr.within in
       let kept : length draft.entries.items ≤ length (entries_in old.index) =
-      omega (arith, fewer, ap length dr.entries, ap length rd.entries) in
+      omega (arith, fewer, ap length dr.rest.entries, ap length rd.entries) in
       let room = read_room b g.ks _ old.level old.index old.stands read.leaves read.rows.items g.tree_at
       rd.leaves rd.rows old.root in
-      rw (leaves_same g.ks g.tree_at read.leaves read.rows.items draft.index dr.index) (le_trans kept room)
+      rw (leaves_same g.ks g.tree_at read.leaves read.rows.items draft.index dr.rest.index) (le_trans kept room)
 
   pub rows_room : HaveRoom (2 * g.ks.internal) (length (ats_of draft.index.leaves)) (rows_of draft.index)
   rows_room =
       rw (
-        leaves_same g.ks g.tree_at read.leaves read.rows.items draft.index dr.index,
-        rows_same g.ks g.tree_at read.leaves read.rows.items draft.index dr.index,
+        leaves_same g.ks g.tree_at read.leaves read.rows.items draft.index dr.rest.index,
+        rows_same g.ks g.tree_at read.leaves read.rows.items draft.index dr.rest.index,
       ) (read_rows_room b g.ks _ old.level old.index old.stands read.leaves read.rows.items g.tree_at
       rd.leaves rd.rows old.root)
 
-  module _ (c : Array) (there : HasName fs name) (freed : HasFree read.heap dr.used c)
+  module _ (c : Array) (there : HasName fs name) (freed : HasFree read.heap dr.rest.used c)
       (spelled : IsSpelledOut c g.ks draft.base draft.index draft.entries.items) where
     abbrev before : List ℕ
     before = read.heap.segment.items
@@ -88,7 +87,7 @@ module _ (b : Array) (g : GroupAt) (name : Name) (read : GroupRead) (draft : Dra
     empty : HasText before draft.base []
     empty = base_there b g name read draft dr fs bs old rd links there.link
 
-    is_used : IsUsedLen before (draft.base ∷ offsets) dr.used
+    is_used : IsUsedLen before (draft.base ∷ offsets) dr.rest.used
     is_used = used_there b g name read draft dr fs bs old rd links there.link
 
     long : length after ≡ length before
@@ -96,19 +95,19 @@ module _ (b : Array) (g : GroupAt) (name : Name) (read : GroupRead) (draft : Dra
 
     stays : (at : ℕ) (text : List ℕ) → IsWith draft.base offsets at → HasText before at text → HasText after at text
     stays at text among h =
-        text_kept before after dr.used long freed.front at text h
+        text_kept before after dr.rest.used long freed.front at text h
         (is_used.behind at text (among_all draft.base offsets at among) h)
 
     same_first : slice_index after 0 ≡ slice_index before 0
-    same_first = first_kept before after dr.used long freed.front (omega (arith, dr.low))
+    same_first = first_kept before after dr.rest.used long freed.front (omega (arith, dr.rest.low))
 
     laid : IsRelaid c g freed.head draft.base draft.index es rest
     laid =
-        relaid c g freed.head draft.base draft.index es rest dr.index.root
+        relaid c g freed.head draft.base draft.index es rest dr.rest.index.root
         (subst (λ (at : ℕ). SpellsHeap freed.head (bytes_of c at 32)) rd.heap_at freed.spelled)
         (stays draft.base [] (inl refl) empty)
         (λ zero. zero_there b g name read draft dr fs bs old rd links there.link (sym same_first ∙ zero))
-        (links_kept before after dr.used long freed.front es rest links
+        (links_kept before after dr.rest.used long freed.front es rest links
         (λ at text within h. is_used.behind at text (among_all draft.base offsets at (inr within)) h))
         (ordered_left b g name read draft dr fs bs old rd there) leaves_room rows_room spelled
 
@@ -123,12 +122,12 @@ module _ (b : Array) (g : GroupAt) (name : Name) (read : GroupRead) (draft : Dra
         rw rd.entries (read_room b g.ks _ old.level old.index old.stands read.leaves read.rows.items g.tree_at
         rd.leaves rd.rows old.root) in
         let moved = subst (IsPermutation (leaf_ats laid.new.index))
-        (leaves_same g.ks g.tree_at read.leaves read.rows.items draft.index dr.index) laid.leaves in
+        (leaves_same g.ks g.tree_at read.leaves read.rows.items draft.index dr.rest.index) laid.leaves in
         some_leaf (2 * g.ks.leaf) read.entries.items dr.place read.leaves _ dr.within room moved
 
-    used_after : IsUsedLen after (index_offsets laid.new.index) dr.used
+    used_after : IsUsedLen after (index_offsets laid.new.index) dr.rest.used
     used_after =
-        used_kept before after dr.used long freed.front draft.base offsets (index_offsets laid.new.index)
+        used_kept before after dr.rest.used long freed.front draft.base offsets (index_offsets laid.new.index)
         (texts_there b g name read draft dr fs bs old rd links there.link) is_used laid.offsets laid.used
         (laid.base_used leaf)
 
@@ -140,16 +139,17 @@ module _ (b : Array) (g : GroupAt) (name : Name) (read : GroupRead) (draft : Dra
 
     level : laid.new.level ≡ old.level
     level =
-        laid.level_is ∙ levels_same g.ks g.tree_at read.leaves read.rows.items draft.index dr.index
+        laid.level_is ∙ levels_same g.ks g.tree_at read.leaves read.rows.items draft.index dr.rest.index
         ∙ read_levels b g.ks _ old.level old.index old.stands read.leaves read.rows.items g.tree_at
         rd.leaves rd.rows old.root
 
     group_stays : StaysGroup b c g fs rest bs laid.blocks old laid.new
     group_stays = record {
-      used = dr.used;
-      is_used = subst (λ (s : List ℕ). IsUsedLen s (index_offsets laid.new.index) dr.used) (sym same_after) used_after;
-      free = subst (λ (h : HeapHead). IsFreeBehind dr.used h (bytes_of c h.segment_at h.len)) (sym laid.head_is)
-          freed.free;
+      used = dr.rest.used;
+      is_used = subst (λ (s : List ℕ). IsUsedLen s (index_offsets laid.new.index) dr.rest.used) (sym same_after)
+          used_after;
+      free = subst (λ (h : HeapHead). IsFreeBehind dr.rest.used h (bytes_of c h.segment_at h.len))
+          (sym laid.head_is) freed.free;
       texts = λ at text was is h.
           let read_text : HasText before at text = subst (λ (s : List ℕ). HasText s at text) (sym rd.segment) h in
           subst (λ (s : List ℕ). HasText s at text) (sym same_after) (stays at text (laid.offsets at is) read_text);
@@ -169,7 +169,7 @@ module _ (b : Array) (g : GroupAt) (name : Name) (read : GroupRead) (draft : Dra
     nodes =
         same_nodes _ _ (old_blocks g.ks draft.index) (new_blocks g.ks draft.index)
         (blocks_by_rows g.ks read.leaves read.rows.items g.tree_at) laid.nodes
-        (new_same g.ks g.tree_at read.leaves read.rows.items draft.index dr.index) nodes_there
+        (new_same g.ks g.tree_at read.leaves read.rows.items draft.index dr.rest.index) nodes_there
         (read_blocks b g.ks _ old.level old.index old.stands read.leaves read.rows.items g.tree_at
         rd.leaves rd.rows old.root)
 
@@ -181,8 +181,8 @@ module _ (b : Array) (g : GroupAt) (name : Name) (read : GroupRead) (draft : Dra
     pub removed : HasRemoved b c g fs bs old name
     removed =
         let is = found b g name read draft dr fs bs old rd there in
-        let entry = slice_index_or read.entries.items dr.place dr.gone in
-        let fewer = one_entry_fewer read.entries.items dr.place dr.gone dr.within in
+        let entry = slice_index_or read.entries.items dr.place dr.rest.gone in
+        let fewer = one_entry_fewer read.entries.items dr.place dr.rest.gone dr.within in
         record {
           links = rest;
           blocks = laid.blocks;
@@ -197,6 +197,6 @@ module _ (b : Array) (g : GroupAt) (name : Name) (read : GroupRead) (draft : Dra
             ap (λ (h : HeapHead). h.len) laid.head_is ∙ freed.len ∙ ap (λ (h : HeapHead). h.len) rd.head_is,
           );
           entry = entry;
-          entries = subst₂ (IsOneMore entry) (sym (laid.entries ∙ dr.entries)) rd.entries fewer;
+          entries = subst₂ (IsOneMore entry) (sym (laid.entries ∙ dr.rest.entries)) rd.entries fewer;
           stays = group_stays;
         }

@@ -20,20 +20,21 @@ use Rattle.group_layout.specs.declared.row.IndexRows.{IndexRows}
 use Rattle.group_facts.specs.Rows.{StandsIn, blocks_by_rows}
 use Rattle.group_facts.proofs.RowBlocks.{rows_are_blocks}
 use Rattle.group_facts.proofs.RowRoom.{rows_have_room}
-use Rattle.group_edit.specs.Removing.{AreSameNodes, same_row}
+use Rattle.group_layout.specs.Laying.{unchanged}
+use Rattle.group_edit.specs.Removing.{AreSameNodes}
 
 -- ---- rows that don't grow
 
-same_ats : (rows : List (List ℕ)) → map ats_of (map same_row rows) ≡ rows
+same_ats : (rows : List (List ℕ)) → map ats_of (map unchanged rows) ≡ rows
 same_ats [] = refl
 same_ats (row ∷ rows) = λ j. append-nil row j ∷ same_ats rows j
 
 same_old : (ks : Ks) (rows : List (List ℕ))
-    → old_nodes ks (map same_row rows) ≡ flat_map (λ (row : List ℕ). map (node_block ks) row) rows
+    → old_nodes ks (map unchanged rows) ≡ flat_map (λ (row : List ℕ). map (node_block ks) row) rows
 same_old ks [] = refl
 same_old ks (row ∷ rows) = ap (λ (bs : List Block). map (node_block ks) row ++ bs) (same_old ks rows)
 
-same_new : (ks : Ks) (rows : List (List ℕ)) → new_nodes ks (map same_row rows) ≡ []
+same_new : (ks : Ks) (rows : List (List ℕ)) → new_nodes ks (map unchanged rows) ≡ []
 same_new ks [] = refl
 same_new ks (row ∷ rows) = same_new ks rows
 
@@ -48,7 +49,7 @@ module _ (ks : Ks) (tree : ℕ) (leaves : List ℕ) (rows : List (List ℕ)) (in
       λ j. own j ++ (same.root j ∷ []) ∷ []
 
   pub levels_same : length index.rows ≡ length rows
-  levels_same = ap length same.rows_are ∙ length-map rows same_row
+  levels_same = ap length same.rows_are ∙ length-map rows unchanged
 
   pub old_same : old_blocks ks index ≡ blocks_by_rows ks leaves rows tree
   old_same =

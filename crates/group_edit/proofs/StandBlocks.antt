@@ -62,7 +62,7 @@ place heap = placed heap.head.segment_at heap.head.len
 abbrev pub part_blocks : Option Image → List Block
 part_blocks part = image_blocks (part_images part)
 
-placed_some : (at n : ℕ) → 0 < n → placed at n ≡ record { start = at; len = n } ∷ []
+pub placed_some : (at n : ℕ) → 0 < n → placed at n ≡ record { start = at; len = n } ∷ []
 placed_some at n some = let e : (n == 0) ≡ false = ne_eqb n 0 (λ z. omega (arith, z, some)) in rw e refl
 
 module _ (heap : Heap) (used next : ℕ) where

@@ -31,11 +31,6 @@ pub record HasRoomFor (ks : Ks) (index : IndexRows) (count : ℕ) : Type 0 where
   pub above : HaveRoom (2 * ks.internal) (length (ats_of index.leaves)) (rows_of index)
   pub levels : length index.rows < 256
 
--- there are few nodes in each row
-pub record AreFew (index : IndexRows) : Type 0 where
-  pub leaves : length (ats_of index.leaves) < 2 ^ 32
-  pub above : All (λ row. length (ats_of row) < 2 ^ 32) index.rows
-
 -- the images of the heap that are written
 abbrev pub heap_writes : HeapEdit → List Image
 heap_writes edit = edit.header ∷ part_images edit.part

@@ -7,7 +7,7 @@ use Rattle.h5_base.specs.declared.extent.Extent.{Extent}
 use Rattle.outside.specs.Array.{Array, Ends}
 use Rattle.outside.specs.Blocks.{Block, AllApart, Agree, placed}
 use Rattle.outside.specs.Space.{SpaceView}
-use Rattle.block_space.specs.Plans.{LiesInOne, planned, taken_blocks}
+use Rattle.block_space.specs.Plans.{LiesInOne, planned}
 use Rattle.block_space.specs.declared.plan.EditPlan.{EditPlan}
 use Rattle.block_space.specs.declared.plan.Needs.{Needs}
 use Rattle.node_codec.specs.declared.snod.SnodEntry.{SnodEntry}
@@ -18,7 +18,7 @@ use Rattle.file_model.specs.WellKept.{IsKeptGroup}
 use Rattle.group_room.specs.Index.{entries_in}
 use Rattle.group_room.specs.Room.{Takes}
 use Rattle.group_room.specs.Used.{IsFreeBehind, IsUsedLen}
-use Rattle.group_facts.specs.Places.{ends_ahead}
+use Rattle.group_facts.specs.Places.{ends_ahead, planned_ahead, taken_ahead}
 use Rattle.group_rows.specs.declared.group.GroupAt.{GroupAt}
 use Rattle.group_edit.specs.declared.target.NewTarget.{NewTarget}
 use Rattle.group_edit.specs.Links.{HoldsGroup, entry_to, segment_in}
@@ -73,14 +73,6 @@ pub record HasRemoved (b c : Array) (g : GroupAt) (fs : List Found) (bs : List B
 
 -- ---- what plans mean
 
--- Blocks of a plan that are taken behind what is ahead of it.
-abbrev pub taken_ahead : SpaceView → Needs → EditPlan → List Block
-taken_ahead v ahead plan = taken_blocks v.regions (ends_ahead v ahead) plan.takes
-
--- what a plan makes of an array once this is taken
-abbrev pub planned_ahead : SpaceView → Needs → EditPlan → Array → Array
-planned_ahead v ahead plan c = planned v.regions (ends_ahead v ahead) plan c
-
 -- The addresses of the blocks that the plan takes are numbers of 64 bits, and no address lies in two of them and of
 -- the group's.
 pub record HasPlace (v : SpaceView) (ahead : Needs) (bs : List Block) (plan : EditPlan) : Type 0 where
@@ -108,7 +100,7 @@ pub record Removes (v : SpaceView) (g : GroupAt) (name : Name) (plan : EditPlan)
   pub takes : plan.takes ≡ []
   pub within : (fs : List Found) (bs : List Block) → HoldsGroup v.array g fs bs → WritesWithin bs plan
   pub makes : (fs : List Found) (bs : List Block) (old : HoldsGroup v.array g fs bs) (c : Array) (ends : Ends)
-      → Agree v.array c bs → HasRemoved v.array (planned v.regions ends plan c) g fs bs old name
+      → Agree v.array c bs → AllApart bs → HasRemoved v.array (planned v.regions ends plan c) g fs bs old name
 
 -- ---- when a plan is done
 

@@ -2,11 +2,9 @@
 -- HDF5 File Format Specification 3.0, III.A.1 and III.B. Cited by what plans one link more.
 use Rattle.std.specs.Prelude.{◌≡◌, ◌⊎◌, ℕ, ◌+◌, ◌*◌, ◌-◌, ◌^◌, ◌<◌, ◌≤◌, ◌==◌, min, List, [], ◌∷◌, ◌++◌, length, map}
 use Rattle.std.specs.Prelude.{replicate, if◌then◌else◌}
-use Rattle.std.specs.List.{flat_map, sum_by}
+use Rattle.std.specs.List.{flat_map}
 use Rattle.h5_base.specs.declared.extent.MemClass.TheVariants as class
-use Rattle.outside.specs.Blocks.{most_blocks}
 use Rattle.outside.specs.Space.{SpaceView}
-use Rattle.block_space.specs.Plans.{all_needed}
 use Rattle.block_space.specs.declared.plan.Needs.{Needs}
 use Rattle.node_codec.specs.Snod.{snod_len}
 use Rattle.node_codec.specs.GroupNodes.{group_node_len}
@@ -19,16 +17,6 @@ use Rattle.group_layout.specs.declared.row.IndexRows.{IndexRows}
 use Rattle.group_layout.specs.declared.row.Row.{Row}
 use Rattle.group_facts.specs.Places.{ends_ahead}
 use Rattle.group_facts.specs.Rows.{top_row}
-
--- what is ahead leaves room to count on
-pub record NeedsSmall (needs : Needs) : Type 0 where
-  pub bytes : all_needed needs < 2 ^ 63
-  pub blocks : needs.blocks < 2 ^ 31
-
--- no more nodes than a file has blocks
-pub record FewNodes (leaves : List ℕ) (above : List (List ℕ)) : Type 0 where
-  pub nodes : length leaves + sum_by length above ≤ most_blocks
-  pub rows : length above < 256
 
 -- the address that is told for a block of the tree behind what is ahead
 abbrev pub next_node : SpaceView → Needs → ℕ

@@ -50,6 +50,7 @@ pub record IsInsertDraft (v : SpaceView) (g : GroupAt) (ahead : Needs) (name : N
   pub is_used : IsUsedBy read.heap.segment.items read.last used
   pub whole : used % 8 ≡ 0
   pub low : 8 ≤ used
+  pub high : used ≤ read.heap.head.len + 8
   pub named : IsNamed read.heap used name (next_segment v ahead) draft.heap
   pub behind : Needs
   pub is_behind : IsBehind ahead draft.heap.segment behind

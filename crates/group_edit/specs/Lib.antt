@@ -3,5 +3,6 @@ pub mod Edited
 pub mod Grown
 pub mod Drafts
 pub mod Inserting
+pub mod Checked
+pub mod Applied
 pub mod Removing
-pub mod Laws

@@ -9,27 +9,20 @@ use Rattle.file_model.specs.Groups.{AreLinks, Found, HasText, entry_offsets}
 use Rattle.entry_list.specs.Places.{IsPlace}
 use Rattle.group_heap.specs.Edits.{IsFreed}
 use Rattle.group_heap.specs.Greatest.{IsGreatest, IsUsedBy}
+use Rattle.group_layout.specs.Laying.{unchanged}
 use Rattle.group_layout.specs.declared.row.IndexRows.{IndexRows}
-use Rattle.group_layout.specs.declared.row.Row.{Row}
 use Rattle.group_rows.specs.declared.group.GroupAt.{GroupAt}
 use Rattle.group_rows.specs.declared.group.GroupRead.{GroupRead}
 use Rattle.group_edit.specs.declared.draft.Draft.{Draft}
 
--- nodes at hand, and none that is taken
-abbrev pub same_row : List ℕ → Row
-same_row row = record { old = row; new = [] }
-
+-- the nodes at hand stay, and none is taken
 pub record AreSameNodes (tree : ℕ) (leaves : List ℕ) (rows : List (List ℕ)) (index : IndexRows) : Type 0 where
-  pub leaves_are : index.leaves ≡ same_row leaves
-  pub rows_are : index.rows ≡ map same_row rows
+  pub leaves_are : index.leaves ≡ unchanged leaves
+  pub rows_are : index.rows ≡ map unchanged rows
   pub root : index.tree ≡ tree
 
--- The draft is the group that was read, without the link at the place of this name.
-pub record IsRemoveDraft (g : GroupAt) (name : Name) (read : GroupRead) (draft : Draft) : Type 0 where
-  pub place : ℕ
-  pub within : place < length read.entries.items
-  pub is_place : (fs : List Found) → AreLinks read.heap.segment.items read.entries.items fs
-      → AreOrdered (map (λ (f : Found). f.name) fs) → IsPlace fs name place
+-- The draft is the group that was read, without the link at a place.
+pub record IsRestDraft (g : GroupAt) (read : GroupRead) (place : ℕ) (draft : Draft) : Type 0 where
   pub gone : SnodEntry
   pub gone_is : gone ≡ slice_index_or read.entries.items place gone
   pub entries : draft.entries.items ≡ remove read.entries.items place
@@ -45,3 +38,11 @@ pub record IsRemoveDraft (g : GroupAt) (name : Name) (read : GroupRead) (draft :
   pub low : 8 ≤ used
   pub freed : IsFreed read.heap used draft.heap
   pub index : AreSameNodes g.tree_at read.leaves read.rows.items draft.index
+
+-- The draft is the group that was read, without the link at the place of this name.
+pub record IsRemoveDraft (g : GroupAt) (name : Name) (read : GroupRead) (draft : Draft) : Type 0 where
+  pub place : ℕ
+  pub within : place < length read.entries.items
+  pub is_place : (fs : List Found) → AreLinks read.heap.segment.items read.entries.items fs
+      → AreOrdered (map (λ (f : Found). f.name) fs) → IsPlace fs name place
+  pub rest : IsRestDraft g read place draft

@@ -4,14 +4,16 @@ use Rattle.std.proofs.Common.{inl, inr}
 use Rattle.std.proofs.lemmas.Bool.{cases_Bool}
 use Rattle.std.proofs.Math.Path.{fun_ext}
 use Rattle.h5_base.specs.declared.extent.MemClass.{MemClass}
+use Rattle.h5_base.specs.declared.extent.MemClass.TheVariants.{Super, Tree, Raw, GlobalHeap, LocalHeap, Header}
 use Rattle.h5_base.specs.declared.extent.Region.{Region}
 use Rattle.outside.specs.Array.{Ends}
 use Rattle.outside.specs.Space.{raised, same_region}
 use Rattle.block_space.specs.Plans.{rounded, taken_blocks}
 use Rattle.block_space.specs.declared.plan.Take.{Take}
+use Rattle.block_space.proofs.Needed.{need_le}
 use Rattle.block_space.proofs.Ends.{ends_as_one, raised_itself, raised_one, raised_other}
 use Rattle.group_room.specs.Index.{addresses}
-use Rattle.group_facts.specs.Places.{InARow, OneAhead, TakenBehind, ends_ahead}
+use Rattle.group_facts.specs.Places.{InARow, NothingAhead, OneAhead, TakenBehind, ends_ahead}
 use Rattle.group_facts.proofs.NeedLemmas.{need_other_region, need_same_region}
 
 pub one_ahead : OneAhead
@@ -50,3 +52,15 @@ row_from regions ends t (suc n) at whole is =
 pub in_a_row : InARow
 in_a_row v ahead t n sound eights =
     row_from v.regions (ends_ahead v ahead) t n (ends_ahead v ahead t.class) (omega (arith, eights)) refl
+
+pub nothing_ahead : NothingAhead
+nothing_ahead v needs none = fun_ext (λ c. omega (
+  arith,
+  need_le v.regions needs c,
+  none Super,
+  none Tree,
+  none Raw,
+  none GlobalHeap,
+  none LocalHeap,
+  none Header,
+))

@@ -2,9 +2,11 @@
 -- Cited by what plans an edit of a group.
 use Rattle.std.specs.Prelude.{◌≡◌, ℕ, ◌+◌, ◌%◌, List, ◌∷◌, map, replicate}
 use Rattle.h5_base.specs.declared.extent.MemClass.{MemClass}
-use Rattle.outside.specs.Array.{Ends}
+use Rattle.outside.specs.Array.{Array, Ends}
+use Rattle.outside.specs.Blocks.{Block}
 use Rattle.outside.specs.Space.{SpaceView, AreRegions, raised}
-use Rattle.block_space.specs.Plans.{need_of, rounded, taken_blocks}
+use Rattle.block_space.specs.Plans.{need_of, needed, planned, rounded, taken_blocks}
+use Rattle.block_space.specs.declared.plan.EditPlan.{EditPlan}
 use Rattle.block_space.specs.declared.plan.Needs.{Needs}
 use Rattle.block_space.specs.declared.plan.Take.{Take}
 use Rattle.plan_pieces.specs.Plan.{IsWithBlock}
@@ -14,7 +16,19 @@ use Rattle.group_room.specs.Index.{addresses}
 abbrev pub ends_ahead : SpaceView → Needs → Ends
 ends_ahead v ahead = λ c. v.ends c + need_of v.regions ahead c
 
+-- Blocks of a plan that are taken behind what is ahead of it.
+abbrev pub taken_ahead : SpaceView → Needs → EditPlan → List Block
+taken_ahead v ahead plan = taken_blocks v.regions (ends_ahead v ahead) plan.takes
+
+-- what a plan makes of an array once this is taken
+abbrev pub planned_ahead : SpaceView → Needs → EditPlan → Array → Array
+planned_ahead v ahead plan c = planned v.regions (ends_ahead v ahead) plan c
+
 -- ---- laws
+
+-- Where nothing is ahead, the regions end where they do.
+abbrev pub NothingAhead : Type 0
+NothingAhead = (v : SpaceView) (needs : Needs) → ((c : MemClass) → needed needs c ≡ 0) → ends_ahead v needs ≡ v.ends
 
 -- One block more ahead is one block taken behind what is ahead.
 abbrev pub OneAhead : Type 0

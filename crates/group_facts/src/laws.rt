@@ -1,7 +1,7 @@
 //! Each function does nothing: its clause is the law.
 
 ghost use Rattle.group_facts.specs.Grown.{FewLevels};
-ghost use Rattle.group_facts.specs.Places.{InARow, OneAhead, TakenBehind};
+ghost use Rattle.group_facts.specs.Places.{InARow, NothingAhead, OneAhead, TakenBehind};
 ghost use Rattle.group_facts.specs.Rows.{LeavesHaveSpare, NothingBelow, RootsChildren, RowsAreBlocks, RowsHaveRoom};
 ghost use Rattle.group_facts.specs.Rows.{RowsHaveSpare};
 
@@ -23,11 +23,12 @@ pub fn root_row()
     ensures nothing { NothingBelow }
 {}
 
-/// Blocks are taken one behind the other.
+/// Blocks are taken one behind the other, the first at the end of its region where nothing is ahead.
 pub fn taken_places()
     ensures one { OneAhead }
     ensures row { InARow }
     ensures behind { TakenBehind }
+    ensures nothing { NothingAhead }
 {}
 
 /// Few levels are enough.

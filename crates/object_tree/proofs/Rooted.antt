@@ -1,5 +1,5 @@
 -- The superblock and the root of a file, put together with all below it.
-use Rattle.std.proofs.Common.{◌≡◌, ℕ, suc, ◌≤◌, ◌<◌, min, true, false, Bool, IsTrue, List, [], ◌∷◌, ◌++◌, map, Option, Some, None, Result, Ok, Err, IfOk, IfErr, IfSome, refl, sym, ◌∙◌, ap, subst, arith, inl, inr, lit<}
+use Rattle.std.proofs.Common.{◌≡◌, ◌≢◌, ℕ, suc, ◌≤◌, ◌<◌, min, true, false, Bool, IsTrue, List, [], ◌∷◌, ◌++◌, map, Option, Some, None, Result, Ok, Err, IfOk, IfErr, IfSome, refl, sym, ◌∙◌, ap, subst, arith, inl, inr, lit<}
 use Rattle.std.specs.List.{Contains}
 use Rattle.std.specs.Prelude.{is_some}
 use Rattle.std.proofs.lemmas.List.{append_assoc}
@@ -55,7 +55,8 @@ use Rattle.object_tree.proofs.SoFar.{counts_same}
 
 -- ---- the superblock
 
-whole_super : (s : Superblock) (b : Array) (e : Bounds) → Spells s (super_bytes_of b e) → super_len s.version ≤ e.ends class.Super
+whole_super : (s : Superblock) (b : Array) (e : Bounds) → Spells s (super_bytes_of b e)
+    → super_len s.version ≤ e.ends class.Super
 whole_super s b e h =
     let version = ap (λ (x : Superblock). super_len x.version) h.value in
     let len = length-map-range_with_len b 0 (min 100 (e.ends class.Super)) in
@@ -66,7 +67,8 @@ some_super : (version : ℕ) → 0 < super_len version
 some_super version = omega arith
 
 -- the superblock's block is the first, and isn't refused
-pub super_free : (s : Superblock) (b : Array) (e : Bounds) → e.starts class.Super ≡ 0 → Spells s (super_bytes_of b e) → IsFree e [] (super_block s)
+pub super_free : (s : Superblock) (b : Array) (e : Bounds) → e.starts class.Super ≡ 0
+    → Spells s (super_bytes_of b e) → IsFree e [] (super_block s)
 super_free s b e first h = record {
   some = some_super s.version;
   others = tt;
@@ -75,23 +77,31 @@ super_free s b e first h = record {
   few = lit< tt;
 }
 
-pub super_not_refused : (s : Superblock) (b : Array) (e : Bounds) (stop : Stop) → e.starts class.Super ≡ 0 → Spells s (super_bytes_of b e) → IfSome (refusal_of stop) (IsBlockRefused e [] (super_block s) kinds.Super)
+pub super_not_refused : (s : Superblock) (b : Array) (e : Bounds) (stop : Stop) → e.starts class.Super ≡ 0
+    → Spells s (super_bytes_of b e) → IfSome (refusal_of stop) (IsBlockRefused e [] (super_block s) kinds.Super)
     → IfSome (refusal_of stop) (IsFileRefused b e)
 super_not_refused s b e stop first h x =
-    if_some (refusal_of stop) (IsBlockRefused e [] (super_block s) kinds.Super) (IsFileRefused b e) (λ r y. absurd (not_refused e [] (super_block s) kinds.Super r (super_free s b e first h) y)) x
+    if_some (refusal_of stop) (IsBlockRefused e [] (super_block s) kinds.Super) (IsFileRefused b e) (λ r y. absurd
+    (not_refused e [] (super_block s) kinds.Super r (super_free s b e first h) y)) x
 
 -- what was read is all that may spell the superblock
-pub super_read : {V : Type 0} (view : V → SpaceView) (first here : V) (now items : List ℕ) (len end : ℕ) → here ≡ first → end ≡ (view here).ends class.Super → len ≡ min 100 end → items ≡ bytes_of (view first).array 0 len → now ≡ items
+pub super_read : {V : Type 0} (view : V → SpaceView) (first here : V) (now items : List ℕ) (len end : ℕ)
+    → here ≡ first → end ≡ (view here).ends class.Super → len ≡ min 100 end
+    → items ≡ bytes_of (view first).array 0 len → now ≡ items
     → now ≡ super_bytes_of (view first).array (bounds_of (view first) None)
 super_read {V = V} view first here now items len end same is most read value =
-    value ∙ read ∙ ap (bytes_of (view first).array 0) (most ∙ ap (min 100) (is ∙ ap (λ (x : V). (view x).ends class.Super) same))
+    value ∙ read ∙ ap (bytes_of (view first).array 0) (most ∙ ap (min 100) (is
+    ∙ ap (λ (x : V). (view x).ends class.Super) same))
 
 ok_or_err : {T E : Type 0} (r : Result T E) (x : T) (y : E) → r ≡ Ok x → r ≡ Err y → ⊥
 ok_or_err r x y h k = cc
 
-pub no_super : (b : Array) (e : Bounds) (bytes : List ℕ) (r : Result Superblock SuperStop) (stop : SuperStop) → bytes ≡ super_bytes_of b e → ((s : Superblock) → Spells s bytes → r ≡ Ok s) → r ≡ Err stop → stop ≡ stop_of bytes → IsFileRefused b e (of_super stop)
+pub no_super : (b : Array) (e : Bounds) (bytes : List ℕ) (r : Result Superblock SuperStop) (stop : SuperStop)
+    → bytes ≡ super_bytes_of b e → ((s : Superblock) → Spells s bytes → r ≡ Ok s) → r ≡ Err stop
+    → stop ≡ stop_of bytes → IsFileRefused b e (of_super stop)
 no_super b e bytes r stop same only is reason =
-    NoSuper (λ s h. ok_or_err r s stop (only s (subst (Spells s) (sym same) h)) is) (ap of_super reason ∙ ap (λ (x : List ℕ). of_super (stop_of x)) same)
+    NoSuper (λ s h. ok_or_err r s stop (only s (subst (Spells s) (sym same) h)) is) (ap of_super reason
+    ∙ ap (λ (x : List ℕ). of_super (stop_of x)) same)
 
 -- ---- a root that is no group
 
@@ -122,14 +132,17 @@ mutual
 
 -- a tree of one node, to which these links were added
 pub root_grown : (old new : ObjectTree) (n : Node) (kls : KeyedLinks) (id : NodeId) → id ≡ root_of old
-    → entry_of old (root_of old).key ≡ Some (bare n) → object_count old ≡ 1 → Grows old new id.key kls
+    → entry_of old (root_of old).key ≡ Some (bare n) → ((k : ℕ) → k ≢ (root_of old).key → entry_of old k ≡ None)
+    → object_count old ≡ 1 → Grows old new id.key kls
     → HasRoot new n kls
-root_grown old new n kls id is made one grows = record {
+root_grown old new n kls id is made others one grows = record {
   entry = ap (entry_of new) place ∙ grows.here n (ap (entry_of old) (ap (λ (i : NodeId). i.key) is) ∙ made);
   below = grows.kept;
   distinct = grows.distinct;
   apart = λ has. not_none (bare n) (sym made ∙ ap (entry_of old) (ap (λ (i : NodeId). i.key) (sym is) ∙ sym place)
       ∙ grows.fresh (root_of new).key has);
+  only = λ k other apart. grows.others k (λ same. other (same ∙ sym place)) apart
+      ∙ others k (λ same. other (same ∙ ap (λ (i : NodeId). i.key) (sym grows.root)));
   objects = omega (arith, grows.objects, one);
 }
   where
@@ -157,6 +170,7 @@ root_sound kept n kls group root sound fits = record {
   nodes = sound;
   tree = root_tree kept n kls;
   shown = root_shown kept n kls group root sound;
+  only = λ k lacks. root.only k (λ same. lacks (inl (sym same))) (λ below. lacks (inr below));
 }
 
 -- ---- what is kept
@@ -165,7 +179,8 @@ some_all : (met : List Block) → ((x : Block) → Contains met x → 0 < x.len)
 some_all [] h = tt
 some_all (m ∷ ms) h = (h m (0, omega arith, refl), some_all ms (λ x c. h x (suc c.0, omega (arith, c.1), c.2)))
 
-pub kept_all : {V : Type 0} (view : V → SpaceView) (blocks : Blocks V) (met : List Block) (own : Option (List ℕ)) → Keeps view blocks met → AreKept (bounds_of (view blocks.space) own) met
+pub kept_all : {V : Type 0} (view : V → SpaceView) (blocks : Blocks V) (met : List Block) (own : Option (List ℕ))
+    → Keeps view blocks met → AreKept (bounds_of (view blocks.space) own) met
 kept_all view blocks met own h = record { some = some_all met h.lists.filled; apart = h.lists.apart; inside = h.inside own }
 
 -- ---- the opened tree
@@ -207,7 +222,15 @@ root_opened view old mid new v b s head tree heap kept kls same now spelled take
     let every = subst (Keeps view new)
     (ap (λ (l : List Block). super_block s ∷ l) (sym (append_assoc bs index (blocks_in ls)))) all in
     let full : HoldsFull v.array (bounds_of v None) s g ls =
-    record { super = spelled; driver = []; driver_is = refl; root = refl; held = (group, opened.held); kept = here (super_block s ∷ ((bs ++ index) ++ blocks_in ls)) every } in
+    record {
+      super = spelled;
+      driver = [];
+      driver_is = refl;
+      root = refl;
+      held = (group, opened.held);
+      kept = here
+          (super_block s ∷ ((bs ++ index) ++ blocks_in ls)) every;
+    } in
     let counted = counts_same kls ls opened.same in
     let within : IsWithinLimits v.array (all_blocks s [] (Group g ls)) (Group g ls) =
     record {
@@ -217,7 +240,8 @@ root_opened view old mid new v b s head tree heap kept kls same now spelled take
       parts = (short_of v.array at found.0 found.1 found.2 found.5, small, opened.fit);
     } in
     opened_as view new v.array (bounds_of v None) kept s g ls (root_tree kept (node.Group head tree heap) kls) is full
-    within every (root_shown kept (node.Group head tree heap) kls refl root sound) ((found.3.0, refl, refl), opened.same)
+    within every (root_shown kept (node.Group head tree heap) kls refl root sound)
+    ((found.3.0, refl, refl), opened.same)
   where
     at : ℕ
     at = s.root.header_at
@@ -240,27 +264,37 @@ root_opened view old mid new v b s head tree heap kept kls same now spelled take
 -- ---- the refused root
 
 -- the superblock's block was taken first
-pub root_refused : (b : Array) (e : Bounds) (s : Superblock) (r : Refusal) → Spells s (super_bytes_of b e) → e.own ≡ None → AreTaken e [] (super_block s ∷ [])
+pub root_refused : (b : Array) (e : Bounds) (s : Superblock) (r : Refusal) → Spells s (super_bytes_of b e)
+    → e.own ≡ None → AreTaken e [] (super_block s ∷ [])
     → IsRootRefused b e (ks_of s) (super_block s ∷ []) s.root.header_at r → IsFileRefused b e r
-root_refused b e s r spelled own taken x = InTree s [] spelled (subst (λ (o : Option (List ℕ)). HasDriver b o s.driver_at []) (sym own) refl) taken x
+root_refused b e s r spelled own taken x = InTree s [] spelled (subst (λ (o : Option
+    (List ℕ)). HasDriver b o s.driver_at []) (sym own) refl) taken x
 
-pub root_header_refused : (b : Array) (e : Bounds) (s : Superblock) (stop : Stop) → Spells s (super_bytes_of b e) → e.own ≡ None → AreTaken e [] (super_block s ∷ [])
+pub root_header_refused : (b : Array) (e : Bounds) (s : Superblock) (stop : Stop) → Spells s (super_bytes_of b e)
+    → e.own ≡ None → AreTaken e [] (super_block s ∷ [])
     → IfSome (refusal_of stop) (IsHeaderRefused b e (super_block s ∷ []) s.root.header_at)
     → IfSome (refusal_of stop) (IsFileRefused b e)
 root_header_refused b e s stop spelled own taken x =
-    if_some (refusal_of stop) (IsHeaderRefused b e (super_block s ∷ []) s.root.header_at) (IsFileRefused b e) (λ r y. root_refused b e s r spelled own taken (RootHeader y)) x
+    if_some (refusal_of stop) (IsHeaderRefused b e (super_block s ∷ []) s.root.header_at) (IsFileRefused b e)
+    (λ r y. root_refused b e s r spelled own taken (RootHeader y)) x
 
 -- a group has a symbol table message
 has_table : (ms : List Met) (tree heap : ℕ) → IsGroupHeader ms tree heap → has 0x11 ms ≡ true
 has_table ms tree heap g = ap is_some g.first
 
-root_below_refused : (b : Array) (e : Bounds) (s : Superblock) (head tree heap : ℕ) (bs : List Block) (stop : Stop) → Spells s (super_bytes_of b e) → e.own ≡ None
+root_below_refused : (b : Array) (e : Bounds) (s : Superblock) (head tree heap : ℕ) (bs : List Block) (stop : Stop)
+    → Spells s (super_bytes_of b e) → e.own ≡ None
     → AreTaken e [] (super_block s ∷ []) → AreTaken e (super_block s ∷ []) bs
-    → (f : IsFound b s.root.header_at (header.Known (node.Group head tree heap)) bs) → IfSome (refusal_of stop) (IsGroupRefused b e (ks_of s) 32 1 (super_block s ∷ bs) tree heap) → IfSome (refusal_of stop) (IsFileRefused b e)
+    → (f : IsFound b s.root.header_at (header.Known (node.Group head tree heap)) bs)
+    → IfSome (refusal_of stop) (IsGroupRefused b e (ks_of s) 32 1 (super_block s ∷ bs) tree heap)
+    → IfSome (refusal_of stop) (IsFileRefused b e)
 root_below_refused b e s head tree heap bs stop spelled own first taken f x =
     if_some (refusal_of stop) (IsGroupRefused b e (ks_of s) 32 1 (super_block s ∷ bs) tree heap) (IsFileRefused b e)
-    (λ r y. root_refused b e s r spelled own first (InGroup f.0 f.1 (was_read b e (super_block s ∷ []) bs s.root.header_at f.0 f.1 f.2 f.4 f.5 taken) (has_table (messages_of f.1) tree heap f.3.1)
-    (group_below b e (ks_of s) 32 0 1 s.root.header_at tree heap (super_block s ∷ []) bs r (omega arith) taken (f.0, f.1, f.2, f.3.1, f.3.0, f.4, f.5) refl y))) x
+    (λ r y. root_refused b e s r spelled own first (InGroup f.0 f.1 (was_read b e
+    (super_block s ∷ []) bs s.root.header_at f.0 f.1 f.2 f.4 f.5 taken) (has_table
+    (messages_of f.1) tree heap f.3.1)
+    (group_below b e (ks_of s) 32 0 1 s.root.header_at tree heap (super_block s ∷ []) bs r (omega arith) taken
+    (f.0, f.1, f.2, f.3.1, f.3.0, f.4, f.5) refl y))) x
 
 pub root_kind_refused : (b : Array) (e : Bounds) (s : Superblock) (n : Node) (bs : List Block)
     → Spells s (super_bytes_of b e) → e.own ≡ None → AreTaken e [] (super_block s ∷ [])
@@ -271,14 +305,17 @@ root_kind_refused b e s n bs spelled own first taken none f =
     (NoGroup f.0 f.1 (was_read b e (super_block s ∷ []) bs s.root.header_at f.0 f.1 f.2 f.4 f.5 taken)
     (no_table (messages_of f.1) s.root.header_at n none f.3) refl)
 
-pub root_later_refused : (b : Array) (e : Bounds) (s : Superblock) (bs : List Block) → Spells s (super_bytes_of b e) → e.own ≡ None → AreTaken e [] (super_block s ∷ [])
-    → AreTaken e (super_block s ∷ []) bs → IsFound b s.root.header_at header.Later bs → IsFileRefused b e (Unsupported what.Header)
+pub root_later_refused : (b : Array) (e : Bounds) (s : Superblock) (bs : List Block)
+    → Spells s (super_bytes_of b e) → e.own ≡ None → AreTaken e [] (super_block s ∷ [])
+    → AreTaken e (super_block s ∷ []) bs → IsFound b s.root.header_at header.Later bs
+    → IsFileRefused b e (Unsupported what.Header)
 root_later_refused b e s bs spelled own first taken f =
     root_refused b e s (Unsupported what.Header) spelled own first
     (LaterRoot (subst (AreTaken e (super_block s ∷ [])) f.1 taken) f.0 refl)
 
 -- a file that is held isn't refused
-pub never_stopped : (b : Array) (e : Bounds) (s : Superblock) (g : GroupAt) (ls : FullLinks) (h : HoldsFull b e s g ls) (stop : Stop) → IsWithinLimits b (all_blocks s h.driver (Group g ls)) (Group g ls)
+pub never_stopped : (b : Array) (e : Bounds) (s : Superblock) (g : GroupAt) (ls : FullLinks)
+    (h : HoldsFull b e s g ls) (stop : Stop) → IsWithinLimits b (all_blocks s h.driver (Group g ls)) (Group g ls)
     → IfSome (refusal_of stop) (IsFileRefused b e) → refusal_of stop ≡ None
 never_stopped b e s g ls h stop within x = go (refusal_of stop) x
   where
@@ -286,32 +323,43 @@ never_stopped b e s g ls h stop within x = go (refusal_of stop) x
     go None x = refl
     go (Some r) x = absurd (not_refused_file b e s g ls h r within x)
 
-pub never_refused : {T : Type 0} (b : Array) (e : Bounds) (s : Superblock) (g : GroupAt) (ls : FullLinks) (h : HoldsFull b e s g ls) (r : Result T Stop) → IsWithinLimits b (all_blocks s h.driver (Group g ls)) (Group g ls)
+pub never_refused : {T : Type 0} (b : Array) (e : Bounds) (s : Superblock) (g : GroupAt) (ls : FullLinks)
+    (h : HoldsFull b e s g ls) (r : Result T Stop) → IsWithinLimits b (all_blocks s h.driver (Group g ls)) (Group g ls)
     → IfErr r (λ stop. IfSome (refusal_of stop) (IsFileRefused b e)) → IfErr r (λ stop. refusal_of stop ≡ None)
 never_refused b e s g ls h (Ok x) within x' = tt
 never_refused b e s g ls h (Err stop) within x = never_stopped b e s g ls h stop within x
 
 -- the same over an alike space
-pub root_moved : {T : Type 0} (v w : SpaceView) (s : Superblock) (r : Result T Stop) → v ≡ w → Spells s (super_bytes_of v.array (bounds_of v None))
-    → (Spells s (super_bytes_of w.array (bounds_of w None)) → IfErr r (λ stop. IfSome (refusal_of stop) (IsFileRefused w.array (bounds_of w None)))) → IfErr r (λ stop. IfSome (refusal_of stop) (IsFileRefused v.array (bounds_of v None)))
+pub root_moved : {T : Type 0} (v w : SpaceView) (s : Superblock) (r : Result T Stop) → v ≡ w
+    → Spells s (super_bytes_of v.array (bounds_of v None))
+    → (Spells s (super_bytes_of w.array (bounds_of w None))
+    → IfErr r (λ stop. IfSome (refusal_of stop) (IsFileRefused w.array (bounds_of w None))))
+    → IfErr r (λ stop. IfSome (refusal_of stop) (IsFileRefused v.array (bounds_of v None)))
 root_moved v w s r same spelled next =
-    subst (λ (a : SpaceView). IfErr r (λ stop. IfSome (refusal_of stop) (IsFileRefused a.array (bounds_of a None)))) (sym same) (next (subst (λ (a : SpaceView). Spells s (super_bytes_of a.array (bounds_of a None))) same spelled))
+    subst (λ (a : SpaceView). IfErr r (λ stop. IfSome (refusal_of stop) (IsFileRefused a.array (bounds_of a None))))
+    (sym same) (next (subst (λ (a : SpaceView). Spells s (super_bytes_of a.array (bounds_of a None))) same spelled))
 
 pub root_told : {V : Type 0} (view : V → SpaceView) (new : Blocks V) (v w : SpaceView) (s : Superblock)
     (r : Result ObjectTree Stop) → v ≡ w → Spells s (super_bytes_of v.array (bounds_of v None))
     → (Spells s (super_bytes_of w.array (bounds_of w None))
-    → IfOk r (OpenedWhole view new w.array (bounds_of w None))) → IfOk r (OpenedWhole view new v.array (bounds_of v None))
+    → IfOk r (OpenedWhole view new w.array (bounds_of w None)))
+    → IfOk r (OpenedWhole view new v.array (bounds_of v None))
 root_told view new v w s r same spelled next =
     subst (λ (a : SpaceView). IfOk r (OpenedWhole view new a.array (bounds_of a None))) (sym same)
     (next (subst (λ (a : SpaceView). Spells s (super_bytes_of a.array (bounds_of a None))) same spelled))
 
 -- ---- by the results of the calls
 
-pub super_refused_at : (v w : SpaceView) (s : Superblock) (stop : Stop) (len : ℕ) → v ≡ w → len ≡ super_len s.version → (v.regions class.Super).start ≡ 0 → Spells s (super_bytes_of v.array (bounds_of v None))
-    → IfSome (refusal_of stop) (IsBlockRefused (bounds_of w None) [] (record { start = 0; len = len }) kinds.Super) → IfSome (refusal_of stop) (IsFileRefused v.array (bounds_of v None))
+pub super_refused_at : (v w : SpaceView) (s : Superblock) (stop : Stop) (len : ℕ) → v ≡ w
+    → len ≡ super_len s.version → (v.regions class.Super).start ≡ 0
+    → Spells s (super_bytes_of v.array (bounds_of v None))
+    → IfSome (refusal_of stop) (IsBlockRefused (bounds_of w None) [] (record { start = 0; len = len }) kinds.Super)
+    → IfSome (refusal_of stop) (IsFileRefused v.array (bounds_of v None))
 super_refused_at v w s stop len same is first spelled x =
-    let x' = subst (λ (a : SpaceView). IfSome (refusal_of stop) (IsBlockRefused (bounds_of a None) [] (record { start = 0; len = len }) kinds.Super)) (sym same) x in
-    let x'' = subst (λ (n : ℕ). IfSome (refusal_of stop) (IsBlockRefused (bounds_of v None) [] (record { start = 0; len = n }) kinds.Super)) is x' in
+    let x' = subst (λ (a : SpaceView). IfSome (refusal_of stop) (IsBlockRefused (bounds_of a None) []
+    (record { start = 0; len = len }) kinds.Super)) (sym same) x in
+    let x'' = subst (λ (n : ℕ). IfSome (refusal_of stop) (IsBlockRefused (bounds_of v None) []
+    (record { start = 0; len = n }) kinds.Super)) is x' in
     super_not_refused s v.array (bounds_of v None) stop first spelled x''
 
 -- what was read below the root, where the space tells its bytes
@@ -332,13 +380,15 @@ pub all_opened : {V : Type 0} (view : V → SpaceView) (old mid new : Blocks V) 
     → IfOk r (λ kept. superblock_of kept ≡ s) → IfOk r (λ kept. object_count kept ≤ 65536) → IfOk r HasSoundNodes
     → IfOk r (BelowTold view mid new w.array (ks_of s) tree heap told n)
     → IfOk r (OpenedWhole view new v.array (bounds_of v None))
-all_opened view old mid new v w s n tree heap told (Ok kept) same now told_it spelled taken table first super few sound below =
+all_opened view old mid new v w s n tree heap told
+    (Ok kept) same now told_it spelled taken table first super few sound below =
     let (head, is) = group_node n tree heap table in
     let first' = subst (RootFound view old mid v.array s.root.header_at) is first in
     let below' = subst (λ (x : Node). BelowTold view mid new w.array (ks_of s) tree heap told x kept) is below in
     root_opened view old mid new v w.array s head tree heap kept below'.0 (ap (λ (a : SpaceView). a.array) same) now
     spelled taken first' super few below'.1 sound (below'.2 told_it)
-all_opened view old mid new v w s n tree heap told (Err stop) same now told_it spelled taken table first super few sound below =
+all_opened view old mid new v w s n tree heap told
+    (Err stop) same now told_it spelled taken table first super few sound below =
     tt
 
 pub all_sound : {V : Type 0} (view : V → SpaceView) (mid new : Blocks V) (b : Array) (ks : Ks) (s : Superblock)
@@ -349,7 +399,8 @@ all_sound view mid new b ks s n tree heap told (Ok kept) table fits super sound 
     root_sound kept n below.0 (table_group n tree heap table) below.1 sound (subst Fits (sym super) fits)
 all_sound view mid new b ks s n tree heap told (Err stop) table fits super sound below = tt
 
-pub all_refused : {V T : Type 0} (view : V → SpaceView) (old mid : Blocks V) (v w : SpaceView) (s : Superblock) (n : Node)
+pub all_refused : {V T : Type 0} (view : V
+    → SpaceView) (old mid : Blocks V) (v w : SpaceView) (s : Superblock) (n : Node)
     (tree heap : ℕ) (r : Result T Stop) → v ≡ w → v ≡ view (space_of mid)
     → Spells s (super_bytes_of v.array (bounds_of v None)) → Keeps view old (super_block s ∷ [])
     → table_of n ≡ Some (record { tree_at = tree; heap_at = heap })
@@ -360,10 +411,12 @@ pub all_refused : {V T : Type 0} (view : V → SpaceView) (old mid : Blocks V) (
 all_refused view old mid v w s n tree heap (Ok kept) same here spelled taken table first x = tt
 all_refused view old mid v w s n tree heap (Err stop) same here spelled taken table first x =
     let (head, is) = group_node n tree heap table in
-    let (bs, found, keeps) = subst (RootFound view old mid v.array s.root.header_at) is first (super_block s ∷ []) taken in
+    let (bs, found, keeps) = subst (RootFound view old mid v.array s.root.header_at) is first
+    (super_block s ∷ []) taken in
     let y = subst (λ (a : SpaceView). IfSome (refusal_of stop)
     (IsGroupRefused a.array (bounds_of a None) (ks_of s) 32 1 (super_block s ∷ bs) tree heap)) (sym same)
     (x (super_block s ∷ bs) None keeps) in
     let first' = taken_over view mid v [] (super_block s ∷ bs) None here keeps in
     root_below_refused v.array (bounds_of v None) s head tree heap bs stop spelled refl
-    (taken_first (bounds_of v None) [] (super_block s ∷ []) bs first') (taken_over view mid v (super_block s ∷ []) bs None here keeps) found y
+    (taken_first (bounds_of v None) [] (super_block s ∷ []) bs first') (taken_over view mid v
+    (super_block s ∷ []) bs None here keeps) found y

@@ -114,10 +114,11 @@ HasParts (node.Group header tree heap) e = ⊥
 HasParts (node.Soft text) e = ⊥
 HasParts (node.Other header) e = ⊥
 
--- A tree of a root with these links, and all below them.
+-- A tree of a root with these links, and all below them; nothing else is kept.
 pub record HasRoot (kept : ObjectTree) (root : Node) (links : KeyedLinks) : Type 0 where
   pub entry : entry_of kept (root_of kept).key ≡ Some (record { node = root; links = child_links links })
   pub below : AreKeptBelow (entry_of kept) links
   pub distinct : AreDistinctBelow links
   pub apart : HasKeyBelow links (root_of kept).key → ⊥
+  pub only : (k : ℕ) → k ≢ (root_of kept).key → (HasKeyBelow links k → ⊥) → entry_of kept k ≡ None
   pub objects : object_count kept ≡ 1 + objects_below links

@@ -1,13 +1,13 @@
 -- An object tree that can be looked through and shown, whatever the file's bytes are: each link leads to a node, names
 -- ascend, and the parts of each dataset fit one another, with shapes of one rank up to 32. Cited by `open_tree`, and
--- by what answers from an opened tree.
-use Rattle.std.specs.Prelude.{◌≡◌, ℕ, List, [], ◌∷◌, Some}
+-- by what answers from an opened tree or edits it.
+use Rattle.std.specs.Prelude.{◌≡◌, ℕ, List, [], ◌∷◌, None, Some}
 use Rattle.super_codec.specs.Super.{Fits}
 use Rattle.header_reader.specs.Told.{IsSoundNode}
 use Rattle.object_model.specs.Tree.{AreOrdered}
 use Rattle.tree_nodes.specs.Nodes.{Kept, link_names}
 use Rattle.tree_nodes.specs.Entries.{entry_of, root_of, superblock_of, Has}
-use Rattle.tree_nodes.specs.Shown.{Keyed, Shows}
+use Rattle.tree_nodes.specs.Shown.{Keyed, HasKey, Shows}
 use Rattle.tree_nodes.specs.declared.node.ChildLink.{ChildLink}
 use Rattle.tree_nodes.specs.declared.tree.ObjectTree.{ObjectTree}
 
@@ -27,9 +27,15 @@ pub record HasSoundNodes (kept : ObjectTree) : Type 0 where
   pub root : Has kept (root_of kept)
   pub entries : (key : ℕ) (e : Kept) → entry_of kept key ≡ Some e → IsSoundEntry kept e
 
--- The K values lie within their limits, and what is kept is a tree: no node is reached twice.
+-- nothing is kept under another key than the tree's
+abbrev pub KeepsOnly : ObjectTree → Keyed → Type 0
+KeepsOnly kept t = (key : ℕ) → (HasKey t key → ⊥) → entry_of kept key ≡ None
+
+-- The K values lie within their limits, and what is kept is a tree: no node is reached twice, and none is kept that
+-- isn't reached.
 pub record IsSoundTree (kept : ObjectTree) : Type 0 where
   pub k_values : Fits (superblock_of kept)
   pub nodes : HasSoundNodes kept
   pub tree : Keyed
   pub shown : Shows kept tree
+  pub only : KeepsOnly kept tree

@@ -23,6 +23,11 @@ pub record IsWithBlock (old : Needs) (class : MemClass) (len : ℕ) (new : Needs
   pub others : (c : MemClass) → number_of c ≢ number_of class → needed new c ≡ needed old c
   pub blocks : new.blocks ≡ old.blocks + 1
 
+-- what is ahead leaves room to count on
+pub record NeedsSmall (needs : Needs) : Type 0 where
+  pub bytes : all_needed needs < 2 ^ 63
+  pub blocks : needs.blocks < 2 ^ 31
+
 -- the address behind an image is a number of 64 bits
 abbrev pub EndsBelow : Image → Type 0
 EndsBelow i = i.at + length i.bytes < 2 ^ 64

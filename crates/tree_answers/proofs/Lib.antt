@@ -4,3 +4,4 @@ pub mod Told
 pub mod Looks
 pub mod Opened
 pub mod SoundTrees
+pub mod Full

@@ -14,12 +14,15 @@ abbrev listed : Result PlainLinks Code → Answer
 listed (Ok ls) = answer.Links (lines_of ls)
 listed (Err code) = answer.No code
 
-list_reply : (t : Plain) (r : Result Plain Code) → reply_to (r >>= λ node. links_of node >>= λ ls. Ok (t, Gives (answer.Links (lines_of ls)))) ≡ listed (r >>= links_of)
+list_reply : (t : Plain) (r : Result Plain Code)
+    → reply_to (r >>= λ node. links_of node >>= λ ls. Ok (t, Gives (answer.Links (lines_of ls)))) ≡ listed
+    (r >>= links_of)
 list_reply t (Err code) = refl
 list_reply t (Ok (Group g ls)) = refl
 list_reply t (Ok (Leaf o)) = refl
 
-pub ls_answer : (t : Plain) (p : List Name) (ls : PlainLinks) → (walk t p >>= links_of) ≡ Ok ls → answer_to t (Some (command.Ls p)) ≡ answer.Links (lines_of ls)
+pub ls_answer : (t : Plain) (p : List Name) (ls : PlainLinks) → (walk t p >>= links_of) ≡ Ok ls
+    → answer_to t (Some (command.Ls p)) ≡ answer.Links (lines_of ls)
 ls_answer t p ls is = list_reply t (walk t p) ∙ ap listed is
 
 abbrev told : Result Plain Code → Answer
@@ -30,5 +33,10 @@ stat_reply : (t : Plain) (r : Result Plain Code) → reply_to (r >>= λ node. Ok
 stat_reply t (Err code) = refl
 stat_reply t (Ok node) = refl
 
-pub stat_answer : (t : Plain) (p : List Name) (u : Plain) → walk t p ≡ Ok u → answer_to t (Some (command.Stat p)) ≡ stat_of u
+pub stat_answer : (t : Plain) (p : List Name) (u : Plain) → walk t p ≡ Ok u
+    → answer_to t (Some (command.Stat p)) ≡ stat_of u
 stat_answer t p u is = stat_reply t (walk t p) ∙ ap told is
+
+pub stat_refused : (t : Plain) (p : List Name) (code : Code) → walk t p ≡ Err code
+    → answer_to t (Some (command.Stat p)) ≡ answer.No code
+stat_refused t p code is = stat_reply t (walk t p) ∙ ap told is

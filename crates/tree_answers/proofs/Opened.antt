@@ -18,7 +18,8 @@ data_shown (node.Group header tree heap) d h = absurd h
 data_shown (node.Dataset header shape elem fill layout filtered) d h =
     let (at, shape_is, elem_is, fill_is, layout_is, filtered_is) = h in
     let is : info_of shape elem fill layout filtered ≡ record { shape = d.info.shape; elem = d.info.elem; fill = d.info.fill; layout = d.info.layout; filtered = d.info.filtered } = cc in
-    subst (λ (i : DataInfo). ShowsData i (data_of d)) (sym is) (record { elem = refl; dims = refl; max = refl; chunk = refl; fill = refl; filtered = refl })
+    subst (λ (i : DataInfo). ShowsData i (data_of d)) (sym is)
+    (record { elem = refl; dims = refl; max = refl; chunk = refl; fill = refl; filtered = refl })
 data_shown (node.Soft text) d h = absurd h
 data_shown (node.Other header) d h = absurd h
 
@@ -28,13 +29,14 @@ leaf_shown n (SoftLeaf text) h = subst (λ (m : Node). ShowsObject m (object_of 
 leaf_shown n (OtherLeaf o) h = subst (λ (m : Node). ShowsObject m (object_of (OtherLeaf o))) (sym h) tt
 
 mutual
-  matches_shown : (k : Keyed) (f : Full) → Matches k f → ShowsPlain k (plain f)
+  pub matches_shown : (k : Keyed) (f : Full) → Matches k f → ShowsPlain k (plain f)
   matches_shown (Group x ks) (Group g ls) h = matches_links ks ls h.1
   matches_shown (Group x ks) (Leaf l) h = absurd h
   matches_shown (Leaf x) (Group g ls) h = absurd h
   matches_shown (Leaf x) (Leaf l) h = leaf_shown x.node l h
 
-  matches_links : (ks : KeyedLinks) (ls : FullLinks) → MatchesLinks ks ls → ShowsLinks ks (map_links (λ _. tt) object_of ls)
+  matches_links : (ks : KeyedLinks) (ls : FullLinks) → MatchesLinks ks ls
+      → ShowsLinks ks (map_links (λ _. tt) object_of ls)
   matches_links Empty Empty h = tt
   matches_links Empty (Link m f more) h = absurd h
   matches_links (Link n k rest) Empty h = absurd h

@@ -6,10 +6,11 @@ use Rattle.outside.specs.Blocks.{Bounds}
 use Rattle.object_model.specs.declared.command.Command.{Command}
 use Rattle.object_model.specs.declared.answer.Answer.{Answer}
 use Rattle.object_model.specs.Step.{Plain, Reply, Gives, step}
-use Rattle.file_model.specs.Holds.{Holds}
+use Rattle.file_model.specs.Holds.{Full, Holds, plain}
 use Rattle.tree_nodes.specs.declared.tree.ObjectTree.{ObjectTree}
 use Rattle.object_tree.specs.Opened.{IsOpened}
 use Rattle.object_tree.specs.Sound.{IsSoundTree}
+use Rattle.tree_places.specs.Kept.{HasPlaces}
 use Rattle.tree_answers.specs.Answers.{is_given, plain_stack}
 use Rattle.tree_answers.specs.Shown.{IsTreeOf}
 
@@ -26,6 +27,14 @@ OpenedIs = (b : Array) (e : Bounds) (kept : ObjectTree) → IsOpened b e kept �
 -- a step.
 abbrev pub SoundIs : Type 0
 SoundIs = (kept : ObjectTree) → IsSoundTree kept → (t : Plain) × IsTreeOf kept t
+
+-- A tree of places that is kept is kept without its places; and each tree of objects that is kept is such a tree, over
+-- a space that tells nothing too. So what an edit makes of places tells what it makes of objects.
+abbrev pub PlacesAre : Type 0
+PlacesAre = (kept : ObjectTree) (f : Full) → HasPlaces kept f → IsTreeOf kept (plain f)
+
+abbrev pub PlacesOf : Type 0
+PlacesOf = (kept : ObjectTree) (t : Plain) → IsTreeOf kept t → (f : Full) × HasPlaces kept f × (plain f ≡ t)
 
 -- a given command leaves the tree as it is, and makes no revision
 abbrev pub OnlyLooks : Type 0

@@ -10,11 +10,12 @@ ghost use Rattle.tree_answers.specs.Kept.{line_by};
 ghost use Rattle.tree_answers.specs.Shown.{IsTreeOf};
 
 use crate::nodes::{shown_of, stat_of};
-use crate::paths::{find, find_group};
+use crate::paths::find_group;
 use h5_base::{LinkName, List, NoMemory};
 use object_model::{Answer, Code, Command, LinkLine};
 use std::alloc::Global;
 use tree_nodes::{ChildLink, NodeId, ObjectTree};
+use tree_places::find_node;
 
 /// The line of a link.
 fn line_of(alloc: Global, tree: &ObjectTree, link: &ChildLink) -> Result<LinkLine, NoMemory>
@@ -80,7 +81,7 @@ fn stat(alloc: Global, tree: &ObjectTree, path: &[LinkName]) -> Result<Answer, N
         → a ≡ answer_to t (Some (command.Stat path.now))) }
     ensures text { IfOk result HasText }
 {
-    match find(tree, path) {
+    match find_node(tree, path) {
         Ok(id) => stat_of(alloc, tree.node(id), tree.links(id)),
         Err(code) => Ok(Answer::No { code }),
     }

@@ -48,7 +48,7 @@ returns g c =
     let laws = g.met.V.Space.readied_view _ _ c.reserve.ensures.readied in
     let (met, keeps, fits) = c.requires.fits in
     record {
-      array = λ told. planned_before v w c.args.plan _ laws (c.in_ok-apply.ensures.array told);
+      array = λ told. planned_before v w c.args.plan _ laws (c.in_ok-apply.ensures.applies.done.array told);
       ends = ends_before v w met c.args.plan _ c.ends_behind_needs.ensures laws
-          (g.met.V.Space.sound _ c.requires.stands).regions fits c.in_ok-apply.ensures.ends;
+          (g.met.V.Space.sound _ c.requires.stands).regions fits c.in_ok-apply.ensures.applies.done.ends;
     }

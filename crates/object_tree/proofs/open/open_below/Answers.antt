@@ -7,6 +7,6 @@ returns-in-Ok-open_links-clause-opened g c =
     let (kls, grows, below) = c.in-Ok-open_links.ensures.opened in (
       kls,
       root_grown c.in-Ok.tree _ c.args.root kls c.root.result c.root.ensures c.in-Ok.ensures.root
-          c.in-Ok.ensures.objects grows,
+          c.in-Ok.ensures.others c.in-Ok.ensures.objects grows,
       rw c.k_values-ks.ensures at below,
     )

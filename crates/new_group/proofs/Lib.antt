@@ -1,0 +1,5 @@
+pub mod Bytes
+pub mod Counted
+pub mod Held
+pub mod Planned
+pub mod Stays

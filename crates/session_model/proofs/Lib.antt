@@ -1,0 +1,14 @@
+pub mod EmptyFile
+pub mod GroupFile
+pub mod LineLemmas
+pub mod ReachLemmas
+pub mod RoomLemmas
+pub mod WriteLemmas
+pub mod ChunkLemmas
+pub mod AnswerLemmas
+pub mod GroupLine
+pub mod RunLemmas
+pub mod FlushLine
+pub mod CommitLine
+pub mod NameLemmas
+pub mod RunExamples

@@ -1,0 +1,11 @@
+pub mod Room
+pub mod TooLarge
+pub mod EndFields
+pub mod Reach
+pub mod State
+pub mod Line
+pub mod Runs
+pub mod Laws
+pub mod GroupFile
+pub mod Examples
+pub mod RunExamples
