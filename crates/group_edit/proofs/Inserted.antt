@@ -21,7 +21,7 @@ use Rattle.file_model.specs.Groups.{AreLinks, Found, HasText, Header, entry_offs
 use Rattle.file_model.specs.WellKept.{IsKeptGroup}
 use Rattle.plan_pieces.specs.Images.{image_blocks, images_of}
 use Rattle.entry_list.specs.Places.{IsPlace}
-use Rattle.group_room.specs.Used.{EndBefore, IsFreeBehind, IsUsedLen, name_end, wider_len}
+use Rattle.group_room.specs.Used.{EndBefore, Fits, IsFreeBehind, IsUsedLen, name_end, wider_len}
 use Rattle.group_heap.specs.Edits as heap
 use Rattle.group_heap.specs.Greatest.{IsUsedBy}
 use Rattle.group_heap.proofs.ArrayLemmas.{len_of}
@@ -48,6 +48,12 @@ use Rattle.group_edit.proofs.InsertedBlocks.{in_place, moved_to, read_blocks, se
 
 wider_some : (used len : ℕ) (name : Name) → 0 < wider_len used len name
 wider_some used len name = omega arith
+
+past : (len used : ℕ) (name : Name) → ¬ Fits used len name → len < name_end used name
+past len used name more = elim (cases_lt len (name_end used name)) [
+  | inl is ↦ is
+  | inr fits ↦ absurd (more fits)
+]
 
 module _ (v : SpaceView) (c : Array) (g : GroupAt) (ahead : Needs) (name : Name) (target : NewTarget)
     (read : GroupRead) (draft : Draft) (dr : IsInsertDraft v g ahead name target read draft) (fs : List Found)
@@ -159,6 +165,24 @@ module _ (v : SpaceView) (c : Array) (g : GroupAt) (ahead : Needs) (name : Name)
   abbrev new_place : List Block
   new_place = placed named.head.segment_at named.head.len
 
+  -- the length that was read is that of the group's heap
+  len_is : read.heap.head.len ≡ old.head.len
+  len_is = ap (λ (h : HeapHead). h.len) rd.head_is
+
+  keeps_place : Fits dr.used old.head.len name
+      → (grown.new.head.segment_at ≡ old.head.segment_at) × (grown.new.head.len ≡ old.head.len)
+  keeps_place fits =
+      let heads = named.stays (omega (arith, fits, len_is)) in (
+        ap (λ (h : HeapHead). h.segment_at) grown.head_is ∙ heads.0 ∙ ap (λ (h : HeapHead). h.segment_at) rd.head_is,
+        ap (λ (h : HeapHead). h.len) grown.head_is ∙ heads.1 ∙ len_is,
+      )
+
+  widened : ¬ Fits dr.used old.head.len name → grown.new.head.len ≡ wider_len dr.used old.head.len name
+  widened more =
+      let heads = named.moves (past read.heap.head.len dr.used name
+      (λ fits. more (subst (λ (n : ℕ). Fits dr.used n name) len_is fits))) in
+      ap (λ (h : HeapHead). h.len) grown.head_is ∙ heads.1 ∙ ap (λ (n : ℕ). wider_len dr.used n name) len_is
+
   -- the segment stays in its place
   stay : name_end dr.used name ≤ read.heap.head.len
       → AreNewBlocks v.array c g fs links bs grown.blocks taken old grown.new
@@ -236,6 +260,9 @@ module _ (v : SpaceView) (c : Array) (g : GroupAt) (ahead : Needs) (name : Name)
     new = grown.new;
     are = are;
     name_at = dr.used;
+    at_used = used_len;
+    in_place = keeps_place;
+    wider = widened;
     entries = subst₂ (IsOneMore (entry_to dr.used target)) rd.entries (sym dr.entries.are ∙ sym grown.entries)
         (one_more read.entries.items dr.entries.place (entry_to dr.used target));
     stays = stays;

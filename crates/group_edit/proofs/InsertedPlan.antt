@@ -39,7 +39,7 @@ use Rattle.group_edit.specs.Checked.{AreAmong, heap_blocks, read_blocks}
 use Rattle.group_edit.specs.declared.draft.Draft.{Draft}
 use Rattle.group_edit.specs.declared.target.NewTarget.{NewTarget}
 use Rattle.group_edit.specs.Drafts.{HasRoomFor, IsPlanFor, LieBelow, new_fills, segment_fills}
-use Rattle.group_edit.specs.Edited.{Inserts, TakesLink}
+use Rattle.group_edit.specs.Edited.{Inserts, StaysWithin, TakesLink}
 use Rattle.group_edit.specs.Grown.{kept_rows}
 use Rattle.group_edit.specs.Inserting.{IsInsertDraft, next_segment}
 use Rattle.group_edit.specs.Links.{HasName, HoldsGroup, IsNewName, cached, entry_to, segment_in}
@@ -229,7 +229,11 @@ module _ (v : SpaceView) (g : GroupAt) (ahead : Needs) (name : Name) (target : N
       → IsReadOf v.array g old.head old.index read)
       → (plan : EditPlan) → IsPlanFor g.ks images draft plan → TakesLink v g name plan
   insert_takes ks images read_of plan pl fs bs old =
-      let rd = read_of fs bs old in (
-        takes_name v g ahead name target read draft dr ks fs bs old rd images plan pl,
-        (insert_fits ks images plan pl bs (group_among v.array g fs bs old read rd)).within,
-      )
+      takes_name v g ahead name target read draft dr ks fs bs old (read_of fs bs old) images plan pl
+
+  pub insert_within : AreSmall g.ks → (images : List Image)
+      → ((fs : List Found) (bs : List Block) (old : HoldsGroup v.array g fs bs)
+      → IsReadOf v.array g old.head old.index read)
+      → (plan : EditPlan) → IsPlanFor g.ks images draft plan → StaysWithin v g plan
+  insert_within ks images read_of plan pl fs bs old =
+      (insert_fits ks images plan pl bs (group_among v.array g fs bs old read (read_of fs bs old))).within

@@ -17,7 +17,7 @@ use Rattle.file_model.specs.Groups.{Found, Header, HasText, index_offsets}
 use Rattle.file_model.specs.WellKept.{IsKeptGroup}
 use Rattle.group_room.specs.Index.{entries_in}
 use Rattle.group_room.specs.Room.{Takes}
-use Rattle.group_room.specs.Used.{IsFreeBehind, IsUsedLen}
+use Rattle.group_room.specs.Used.{Fits, IsFreeBehind, IsUsedLen, wider_len}
 use Rattle.group_facts.specs.Places.{ends_ahead, planned_ahead, taken_ahead}
 use Rattle.group_rows.specs.declared.group.GroupAt.{GroupAt}
 use Rattle.group_edit.specs.declared.target.NewTarget.{NewTarget}
@@ -44,7 +44,8 @@ AreNewBlocks b c g fs gs bs cs taken old new =
     ((new.head.segment_at ≡ old.head.segment_at) × (new.head.len ≡ old.head.len) × IsPermutation cs (bs ++ taken))
     ⊎ IsPermutation (cs ++ placed old.head.segment_at old.head.len) (bs ++ taken)
 
--- The group has one link more, of this name and to this target.
+-- The group has one link more, of this name and to this target. The name stands behind the used bytes of the old heap.
+-- Where it fits the segment, that keeps its place and its length; else there is a new one, of the length for the name.
 pub record HasInserted (b c : Array) (g : GroupAt) (fs : List Found) (bs : List Block) (old : HoldsGroup b g fs bs)
     (name : Name) (target : NewTarget) (taken : List Block) : Type 0 where
   pub links : List Found
@@ -53,6 +54,10 @@ pub record HasInserted (b c : Array) (g : GroupAt) (fs : List Found) (bs : List 
   pub new : HoldsGroup c g links blocks
   pub are : AreNewBlocks b c g fs links bs blocks taken old new
   pub name_at : ℕ
+  pub at_used : IsUsedLen (segment_in b g fs bs old) (index_offsets old.index) name_at
+  pub in_place : Fits name_at old.head.len name
+      → (new.head.segment_at ≡ old.head.segment_at) × (new.head.len ≡ old.head.len)
+  pub wider : ¬ Fits name_at old.head.len name → new.head.len ≡ wider_len name_at old.head.len name
   pub entries : IsOneMore (entry_to name_at target) (entries_in old.index) (entries_in new.index)
   pub stays : StaysGroup b c g fs links bs blocks old new
 
@@ -83,22 +88,26 @@ pub record HasPlace (v : SpaceView) (ahead : Needs) (bs : List Block) (plan : Ed
 abbrev pub WritesWithin : List Block → EditPlan → Type 0
 WritesWithin bs plan = (w : Extent) → Contains plan.writes w → LiesInOne bs w.start w.len
 
+-- the plan writes within the blocks of the group
+abbrev pub StaysWithin : SpaceView → GroupAt → EditPlan → Type 0
+StaysWithin v g plan = (fs : List Found) (bs : List Block) → HoldsGroup v.array g fs bs → WritesWithin bs plan
+
 -- The plan makes one link more, of every array that agrees with this one on the group's blocks.
 abbrev pub Inserts : SpaceView → GroupAt → Needs → Name → NewTarget → EditPlan → Type 0
 Inserts v g ahead name target plan = (fs : List Found) (bs : List Block) (old : HoldsGroup v.array g fs bs)
     (c : Array) → Agree v.array c bs → HasPlace v ahead bs plan
     → HasInserted v.array (planned_ahead v ahead plan c) g fs bs old name target (taken_ahead v ahead plan)
 
--- It takes what the name takes, and writes within the group's blocks.
+-- The plan takes what the name takes.
 abbrev pub TakesLink : SpaceView → GroupAt → Name → EditPlan → Type 0
 TakesLink v g name plan = (fs : List Found) (bs : List Block) (old : HoldsGroup v.array g fs bs)
-    → Takes v.array g.ks g.tree_at g.heap_at fs bs old name plan.takes × WritesWithin bs plan
+    → Takes v.array g.ks g.tree_at g.heap_at fs bs old name plan.takes
 
 -- The plan takes nothing, writes within the group's blocks, and makes one link fewer, of every array that agrees with
 -- this one on the group's blocks.
 pub record Removes (v : SpaceView) (g : GroupAt) (name : Name) (plan : EditPlan) : Type 0 where
   pub takes : plan.takes ≡ []
-  pub within : (fs : List Found) (bs : List Block) → HoldsGroup v.array g fs bs → WritesWithin bs plan
+  pub within : StaysWithin v g plan
   pub makes : (fs : List Found) (bs : List Block) (old : HoldsGroup v.array g fs bs) (c : Array) (ends : Ends)
       → Agree v.array c bs → AllApart bs → HasRemoved v.array (planned v.regions ends plan c) g fs bs old name
 

@@ -8,7 +8,7 @@ ghost use Rattle.group_room.specs.Index.{AreSmall};
 ghost use Rattle.group_rows.specs.Gathering.{IsMalformed, Reads};
 ghost use Rattle.group_rows.specs.Reading.{IsHeld, IsSmallRead};
 ghost use Rattle.plan_pieces.specs.Plan.{NeedsSmall};
-ghost use Rattle.group_edit.specs.Edited.{Inserts, TakesLink};
+ghost use Rattle.group_edit.specs.Edited.{Inserts, StaysWithin, TakesLink};
 ghost use Rattle.group_edit.specs.Inserting.{IsBehind, IsInsertDraft, IsWithEntry, MaybeShort};
 ghost use Rattle.group_edit.specs.Links.{HasName, HoldsGroup, IsNewName};
 
@@ -144,6 +144,7 @@ pub fn plan_insert<V: Space>(
         (Inserts (V.view (space_of blocks.old)) group.now ahead.now link.entry.name.now link.entry.target) }
     ensures takes { IsTrue V.tells
         → IfOk result (TakesLink (V.view (space_of blocks.old)) group.now link.entry.name.now) }
+    ensures within { IsTrue V.tells → IfOk result (StaysWithin (V.view (space_of blocks.old)) group.now) }
     ensures fits { IfOk result (λ plan. (met : List Block) → Keeps V.view blocks.old met → FitsCatalogue met plan) }
     ensures small { IfOk result (λ plan. all_needed plan.needs < 2 ^ 63) }
     ensures few { IfOk result (λ plan. plan.needs.blocks ≤ 2 ^ 31) }

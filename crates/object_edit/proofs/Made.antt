@@ -31,7 +31,7 @@ use Rattle.new_group.specs.Group.{HoldsEmpty, group_takes}
 use Rattle.new_group.specs.Planned.{IsNewGroup, LieBelow}
 use Rattle.new_group.specs.declared.new_group.NewGroup.{NewGroup}
 use Rattle.new_group.proofs.Stays.{empty_stays}
-use Rattle.group_edit.specs.Edited.{HasInserted, HasPlace, Inserts, TakesLink}
+use Rattle.group_edit.specs.Edited.{HasInserted, HasPlace, Inserts, StaysWithin, TakesLink}
 use Rattle.group_edit.specs.Links.{HoldsGroup}
 use Rattle.object_edit.specs.Joined.{IsJoined}
 use Rattle.object_edit.specs.Making.{IsMade, MakesGroup, group_part, link_part, target_to}
@@ -159,7 +159,7 @@ module _ (v : SpaceView) (g : GroupAt) (name : Name) (nothing : Needs) (own : Ne
     (is : IsNewGroup v g.ks nothing own) (none : (c : MemClass) → needed nothing c ≡ 0)
     (small : AreSmall g.ks) (link joined : EditPlan) (j : IsJoined own.plan link joined) (met : List Block)
     (fits : FitsCatalogue met link) (inserts : Inserts v g own.ahead name (target_to own.at) link)
-    (takes : TakesLink v g name link) where
+    (takes : TakesLink v g name link) (within : StaysWithin v g link) where
   abbrev first : List Block
   first = group_part v g.ks
 
@@ -214,14 +214,14 @@ module _ (v : SpaceView) (g : GroupAt) (name : Name) (nothing : Needs) (own : Ne
     -- what the link's plan writes lies in the parent's blocks
     beside_writes : (x : Block) → Contains first x → (w : Extent) → Contains link.writes w → AreApart x (range_of w)
     beside_writes x there w has =
-        let lies : LiesInOne bs w.start w.len = (takes fs bs old).1 w has in
+        let lies : LiesInOne bs w.start w.len = within fs bs old w has in
         let y : Block = lies.0 in
         narrowed x y (range_of w) (each_apart y first (across_left bs first second apart y lies.1) x there)
         lies.2 lies.3
 
     agree_second : Agree (then c) (last c) first
     agree_second = agree_beside v.regions (ends_ahead v own.ahead) met link (then c) fits
-        (whole_name v g fs bs old name link.takes (takes fs bs old).0) first
+        (whole_name v g fs bs old name link.takes (takes fs bs old)) first
         (λ x there. subst (IsApart x) (sym second_is)
         (across first second (all_right bs (first ++ second) apart) x there))
         beside_writes
@@ -244,9 +244,9 @@ module _ (v : SpaceView) (g : GroupAt) (name : Name) (nothing : Needs) (own : Ne
     link_takes = link.takes;
     ks = is.ks_are;
     takes = takes_are v g.ks nothing own is none small link joined j;
-    name_takes = λ fs bs old. (takes fs bs old).0;
+    name_takes = takes;
     within = λ fs bs old. subst (λ (ws : List Extent). (w : Extent) → Contains ws w → LiesInOne bs w.start w.len)
-        (sym j.writes) (takes fs bs old).1;
+        (sym j.writes) (within fs bs old);
     makes = λ fs bs old c agree below apart. is_made fs bs old c agree
         (subst (λ (ts : List Block). (x : Block) → Contains ts x → x.start + x.len < 2 ^ 64) all_is below)
         (subst (λ (ts : List Block). AllApart (bs ++ ts)) all_is apart);

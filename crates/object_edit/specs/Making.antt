@@ -13,7 +13,7 @@ use Rattle.group_room.specs.Room.{Takes}
 use Rattle.group_rows.specs.declared.group.GroupAt.{GroupAt}
 use Rattle.new_group.specs.Group.{HoldsEmpty, group_takes}
 use Rattle.group_edit.specs.declared.target.NewTarget.{NewTarget}
-use Rattle.group_edit.specs.Edited.{HasInserted, WritesWithin}
+use Rattle.group_edit.specs.Edited.{HasInserted, StaysWithin}
 use Rattle.group_edit.specs.Links.{HoldsGroup}
 use Rattle.object_edit.specs.declared.making.GroupPlan.{GroupPlan}
 
@@ -55,7 +55,7 @@ pub record MakesGroup (v : SpaceView) (g : GroupAt) (name : Name) (new : GroupPl
   pub takes : new.plan.takes ≡ group_takes g.ks ++ link_takes
   pub name_takes : (fs : List Found) (bs : List Block) (old : HoldsGroup v.array g fs bs)
       → Takes v.array g.ks g.tree_at g.heap_at fs bs old name link_takes
-  pub within : (fs : List Found) (bs : List Block) → HoldsGroup v.array g fs bs → WritesWithin bs new.plan
+  pub within : StaysWithin v g new.plan
   pub makes : (fs : List Found) (bs : List Block) (old : HoldsGroup v.array g fs bs) (c : Array)
       → Agree v.array c bs → ((x : Block) → Contains (all_taken v new) x → x.start + x.len < 2 ^ 64)
       → AllApart (bs ++ all_taken v new) → IsMade v g fs bs old name new link_takes c

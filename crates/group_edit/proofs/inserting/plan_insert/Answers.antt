@@ -4,11 +4,11 @@ use Rattle.outside.specs.Space.{SpaceView}
 use Rattle.block_space.specs.Blocks.{Keeps}
 use Rattle.block_space.specs.Plans.{FitsCatalogue}
 use Rattle.group_edit.specs.Drafts.{IsPlanFor}
-use Rattle.group_edit.specs.Edited.{Inserts, TakesLink}
+use Rattle.group_edit.specs.Edited.{Inserts, StaysWithin, TakesLink}
 use Rattle.group_edit.specs.Inserting.{IsInsertDraft}
 use Rattle.group_edit.proofs.BelowRead.{kept_below, segment_below}
 use Rattle.group_edit.proofs.InsertedPlan.{caches_with, insert_below, insert_fits, insert_inserts, insert_room}
-use Rattle.group_edit.proofs.InsertedPlan.{insert_takes}
+use Rattle.group_edit.proofs.InsertedPlan.{insert_takes, insert_within}
 use Rattle.group_edit.proofs.RemovedPlan.{ok_weaker}
 use Rattle.group_edit.proofs.inserting.plan_insert.Goals as goal
 
@@ -74,6 +74,20 @@ returns-in-Ok-clause-takes g c = λ told.
     let images = c.in-Ok.drafted.old.items in
     ok_weaker c.draft_plan.result (IsPlanFor group.ks images draft) (TakesLink v group link.name.now)
     (insert_takes v group c.args.ahead.now link.name.now link.target read draft dr c.requires.ks images
+    (c.in_ok-read.ensures.found told)) c.draft_plan.ensures.plan
+
+pub returns-in-Ok-clause-within : goal.returns-in-Ok-clause-within
+returns-in-Ok-clause-within g c = λ told.
+    let group = c.args.group.now in
+    let link = c.args.link in
+    let read = c.in_ok-read.read in
+    let draft = c.in-Ok.drafted.draft in
+    let v = g.V.Space.view c.args.blocks.now.space in
+    let dr = subst (λ (w : SpaceView). IsInsertDraft w group c.args.ahead.now link.name.now link.target read draft)
+    (sym (g.met.V.Space.alike _ _ c.in_ok-read.ensures.reads.alike)) c.in-Ok.ensures.draft in
+    let images = c.in-Ok.drafted.old.items in
+    ok_weaker c.draft_plan.result (IsPlanFor group.ks images draft) (StaysWithin v group)
+    (insert_within v group c.args.ahead.now link.name.now link.target read draft dr c.requires.ks images
     (c.in_ok-read.ensures.found told)) c.draft_plan.ensures.plan
 
 pub returns-in-Ok-clause-fits : goal.returns-in-Ok-clause-fits

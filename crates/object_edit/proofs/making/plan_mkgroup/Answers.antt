@@ -25,7 +25,7 @@ returns-in-Ok-join_plans-clause-makes g c = λ told.
     c.in-Ok.ensures c.no_needs.ensures.bytes c.requires.ks c.in_ok-link.link
     c.in-Ok-join_plans.plan c.in-Ok-join_plans.ensures met
     (c.in_ok-link.ensures.fits met c.requires.listed.1) (c.in_ok-link.ensures.inserts told)
-    (c.in_ok-link.ensures.takes told)
+    (c.in_ok-link.ensures.takes told) (c.in_ok-link.ensures.within told)
 
 pub returns-in-Ok-join_plans-clause-fits : goal.returns-in-Ok-join_plans-clause-fits
 returns-in-Ok-join_plans-clause-fits g c = λ met keeps.
