@@ -1,3 +1,4 @@
 pub mod EntryLaws
+pub mod NamedLemmas
 pub mod OrderLaws
 pub mod PlaceLemmas

@@ -9,4 +9,4 @@ pub use laws::{
     links_insert, links_remove, name_found, name_lacking, offsets_insert, offsets_remove,
     one_fewer, one_more, order_insert, order_remove,
 };
-pub use places::place_of;
+pub use places::{is_named, place_of};
