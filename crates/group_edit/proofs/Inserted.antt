@@ -124,10 +124,10 @@ module _ (v : SpaceView) (c : Array) (g : GroupAt) (ahead : Needs) (name : Name)
   links_are : AreLinks changed draft.entries.items links
   links_are = subst (λ (es : List SnodEntry). AreLinks changed es links) (sym dr.entries.are)
       (links_there segment changed dr.used name with_name read.entries.items fs dr.entries.place target told ends
-      dr.entries.within)
+      dr.entries.free.within)
 
   place : IsPlace fs name dr.entries.place
-  place = dr.entries.is_place fs
+  place = dr.entries.free.is_place fs
       (subst (λ (l : List ℕ). AreLinks l read.entries.items fs) (sym rd.segment) told) old.ordered
 
   ordered : AreOrdered ([] ∷ names_of links)
@@ -138,7 +138,7 @@ module _ (v : SpaceView) (c : Array) (g : GroupAt) (ahead : Needs) (name : Name)
 
   count : length draft.entries.items ≡ length read.entries.items + 1
   count = ap length dr.entries.are
-      ∙ length-insert read.entries.items dr.entries.place (entry_to dr.used target) dr.entries.within
+      ∙ length-insert read.entries.items dr.entries.place (entry_to dr.used target) dr.entries.free.within
 
   -- the group that is laid out
   grown : IsRelaid c g named.head draft.base draft.index draft.entries.items links

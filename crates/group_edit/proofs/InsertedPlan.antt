@@ -176,7 +176,7 @@ module _ (v : SpaceView) (g : GroupAt) (ahead : Needs) (name : Name) (target : N
       (rd : IsReadOf v.array g old.head old.index read) where
     count : length draft.entries.items ≡ length read.entries.items + 1
     count = ap (λ (es : List SnodEntry). length es) dr.entries.are
-        ∙ length-insert read.entries.items dr.entries.place (entry_to dr.used target) dr.entries.within
+        ∙ length-insert read.entries.items dr.entries.place (entry_to dr.used target) dr.entries.free.within
 
     few_leaves : IsSmallRead read → length (leaf_ats old.index) ≤ most_blocks
     few_leaves small = omega (arith, small.nodes, ap (λ (l : List ℕ). length l) rd.leaves)

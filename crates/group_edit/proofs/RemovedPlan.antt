@@ -78,7 +78,7 @@ module _ (g : GroupAt) (name : Name) (read : GroupRead) (draft : Draft) (dr : Is
     all_whole : All IsWhole (segment_fills draft.heap ++ pl.fills)
     all_whole = subst (All IsWhole) (sym no_fills) (All-nil IsWhole)
 
-    no_takes : plan.takes ≡ []
+    pub no_takes : plan.takes ≡ []
     no_takes = pl.plan_is.takes ∙ ap takes_of no_fills
 
     pub rest_fits : (met : List Block) → AreAmong (read_blocks g read) met → FitsCatalogue met plan

@@ -9,7 +9,7 @@ use Rattle.object_model.specs.Tree.{Name, AreOrdered}
 use Rattle.file_model.specs.Groups.{AreLinks, Found}
 use Rattle.plan_pieces.specs.Plan.{IsWithBlock}
 use Rattle.plan_pieces.specs.declared.image.NewBlock.{NewBlock}
-use Rattle.entry_list.specs.Places.{IsPlace}
+use Rattle.entry_list.specs.Places.{IsNamedAt, IsPlace}
 use Rattle.group_heap.specs.Edits.{IsNamed}
 use Rattle.group_heap.specs.Greatest.{IsUsedBy}
 use Rattle.group_facts.specs.Places.{ends_ahead}
@@ -30,13 +30,18 @@ abbrev pub IsBehind : Needs → Option NewBlock → Needs → Type 0
 IsBehind ahead None behind = behind ≡ ahead
 IsBehind ahead (Some n) behind = IsWithBlock ahead n.class (length n.image.bytes) behind
 
--- The entries have one more, at the place of its name among the links that they tell.
-pub record IsWithEntry (segment : List ℕ) (es : List SnodEntry) (name : Name) (e : SnodEntry) (es' : List SnodEntry)
-    : Type 0 where
-  pub place : ℕ
+-- The place of a name among the links that the entries tell; the entry that is there has another name.
+pub record IsFreePlace (segment : List ℕ) (es : List SnodEntry) (name : Name) (place : ℕ) : Type 0 where
   pub within : place ≤ length es
   pub is_place : (fs : List Found) → AreLinks segment es fs → AreOrdered (map (λ (f : Found). f.name) fs)
       → IsPlace fs name place
+  pub lacks : ¬ IsNamedAt segment es place name
+
+-- The entries have one more, at the place of its name, which none of them has there.
+pub record IsWithEntry (segment : List ℕ) (es : List SnodEntry) (name : Name) (e : SnodEntry) (es' : List SnodEntry)
+    : Type 0 where
+  pub place : ℕ
+  pub free : IsFreePlace segment es name place
   pub are : es' ≡ insert es place e
 
 -- the address that is told for a block of a heap behind what is ahead

@@ -39,10 +39,12 @@ pub record IsRestDraft (g : GroupAt) (read : GroupRead) (place : ℕ) (draft : D
   pub freed : IsFreed read.heap used draft.heap
   pub index : AreSameNodes g.tree_at read.leaves read.rows.items draft.index
 
--- The draft is the group that was read, without the link at the place of this name.
+-- The draft is the group that was read, without the link at the place of this name: the entry that is gone has it in
+-- the segment that was read, whatever that is.
 pub record IsRemoveDraft (g : GroupAt) (name : Name) (read : GroupRead) (draft : Draft) : Type 0 where
   pub place : ℕ
   pub within : place < length read.entries.items
   pub is_place : (fs : List Found) → AreLinks read.heap.segment.items read.entries.items fs
       → AreOrdered (map (λ (f : Found). f.name) fs) → IsPlace fs name place
   pub rest : IsRestDraft g read place draft
+  pub named : HasText read.heap.segment.items rest.gone.name_at name

@@ -1,15 +1,16 @@
-ghost use Rattle.std.specs.Prelude.{◌≡◌, ◌≢◌, ◌+◌, ◌<◌, ◌≤◌, ◌^◌, List, IfErr, IfOk, IsTrue, length};
-ghost use Rattle.std.specs.Prelude.{slice_index};
+ghost use Rattle.std.specs.Prelude.{◌≡◌, ◌≢◌, ◌+◌, ◌<◌, ◌≤◌, ◌^◌, List, IfErr, IfOk, IsErrOf, IsTrue, length};
+ghost use Rattle.std.specs.Prelude.{insert, map, slice_index};
 ghost use Rattle.outside.specs.Blocks.{Block};
 ghost use Rattle.block_space.specs.Blocks.{Keeps, space_of};
 ghost use Rattle.block_space.specs.Plans.{FitsCatalogue, all_needed};
-ghost use Rattle.file_model.specs.Groups.{Found};
+ghost use Rattle.object_model.specs.Tree.{AreOrdered};
+ghost use Rattle.file_model.specs.Groups.{AreLinks, Found};
 ghost use Rattle.group_room.specs.Index.{AreSmall};
 ghost use Rattle.group_rows.specs.Gathering.{IsMalformed, Reads};
 ghost use Rattle.group_rows.specs.Reading.{IsHeld, IsSmallRead};
 ghost use Rattle.plan_pieces.specs.Plan.{NeedsSmall};
 ghost use Rattle.group_edit.specs.Edited.{Inserts, StaysWithin, TakesLink};
-ghost use Rattle.group_edit.specs.Inserting.{IsBehind, IsInsertDraft, IsWithEntry, MaybeShort};
+ghost use Rattle.group_edit.specs.Inserting.{IsBehind, IsFreePlace, IsInsertDraft, MaybeShort};
 ghost use Rattle.group_edit.specs.Links.{HasName, HoldsGroup, IsNewName};
 
 use crate::checking::{is_address, read_listed};
@@ -17,10 +18,10 @@ use crate::draft::{Draft, Drafted, draft_plan};
 use crate::growing::{Nodes, grow};
 use crate::target::{NewTarget, entry_to};
 use block_space::{Blocks, EditPlan, Needs, PlanStop};
-use entry_list::place_of;
+use entry_list::{is_named, place_of};
 use group_heap::{put_name, used_len};
 use group_rows::{GroupAt, GroupRead};
-use h5_base::{MemClass, NoMemory};
+use h5_base::{BlockKind, MemClass, NoMemory};
 use node_codec::SnodEntry;
 use outside::Space;
 use plan_pieces::{NewBlock, with_block};
@@ -31,6 +32,12 @@ use std::alloc::Global;
 pub struct NewLink<'a> {
     pub name: &'a [u8],
     pub target: NewTarget,
+}
+
+/// A link that is put into a group, and its place among the entries.
+struct PlacedLink<'a> {
+    link: NewLink<'a>,
+    place: usize,
 }
 
 /// What is ahead of the nodes: a new segment too, where there is one.
@@ -59,16 +66,32 @@ fn base_with(segment: &[u8], used: u64, name: &[u8]) -> u64
     }
 }
 
-/// The entries with one more, at the place of its name.
+/// The place of a name that is to be put in. `Malformed` comes where the entry that is there has it already.
+fn free_place(group: &GroupAt, read: &GroupRead, name: &[u8]) -> Result<usize, PlanStop>
+    ensures free { IfOk result (IsFreePlace read.now.heap.segment.items read.now.entries.items name.now) }
+    ensures whole { (fs : List Found) → AreLinks read.now.heap.segment.items read.now.entries.items fs
+        → AreOrdered (map (λ f. f.name) fs) → (HasName fs name.now → ⊥) → IfErr result (λ stop. ¬ IsMalformed stop) }
+    ensures calm { ¬ IsErrOf result PlanStop.Failed }
+{
+    let place = place_of(&read.heap.segment, &read.entries, name);
+    if is_named(&read.heap.segment, &read.entries, place, name) {
+        return Err(PlanStop::Malformed {
+            at: group.tree_at,
+            kind: BlockKind::Tree,
+        });
+    }
+    Ok(place)
+}
+
+/// The entries with one more, at a place.
 fn with_entry(
-    segment: &[u8],
     entries: Vec<SnodEntry>,
-    name: &[u8],
+    place: usize,
     entry: SnodEntry,
 ) -> Result<Vec<SnodEntry>, NoMemory>
-    ensures { IfOk result (λ v. IsWithEntry segment.now entries.items name.now entry v.items) }
+    requires { place ≤ length entries.items }
+    ensures { IfOk result (λ v. v.items ≡ insert entries.items place entry) }
 {
-    let place = place_of(segment, &entries, name);
     let mut entries = entries;
     match entries.insert(place, entry) {
         Ok(()) => Ok(entries),
@@ -82,17 +105,19 @@ fn draft_link<V: Space>(
     blocks: &Blocks<V>,
     group: &GroupAt,
     read: GroupRead,
-    link: NewLink,
+    placed: PlacedLink,
     ahead: &Needs,
 ) -> Result<Drafted, NoMemory>
-    requires name { IsNewName link.name.now }
+    requires name { IsNewName placed.link.name.now }
+    requires free { IsFreePlace read.heap.segment.items read.entries.items placed.link.name.now placed.place }
     requires ahead { NeedsSmall ahead.now }
     requires small { IsSmallRead read }
     requires within { read.heap.head.segment_at + read.heap.head.len < 2 ^ 64 }
     ensures draft { IfOk result (λ d. IsInsertDraft (V.view (space_of blocks.now)) group.now ahead.now
-        link.entry.name.now link.entry.target read d.draft) }
+        placed.entry.link.name.now placed.entry.link.target read d.draft) }
     ensures old { IfOk result (λ d. d.old.items ≡ read.blocks.items) }
 {
+    let PlacedLink { link, place } = placed;
     let GroupRead {
         heap,
         entries,
@@ -107,7 +132,7 @@ fn draft_link<V: Space>(
     let behind = with_segment(ahead, &edit.segment);
     let base = base_with(&heap.segment, used, link.name);
     let entry = entry_to(used, &link.target);
-    let entries = with_entry(&heap.segment, entries, link.name, entry)?;
+    let entries = with_entry(entries, place, entry)?;
     let nodes = Nodes { leaves, rows };
     let index = grow(alloc, blocks, group, &behind, entries.len(), nodes)?;
     let draft = Draft {
@@ -124,7 +149,8 @@ fn draft_link<V: Space>(
 /// The name isn't among the group's links. Nothing is written by it.
 ///
 /// Where the space doesn't tell its bytes, they may be others than when the catalogue was made: `Malformed` comes where
-/// the group isn't read again, a block of it isn't in the catalogue, or its nodes have no room.
+/// the group isn't read again, a block of it isn't in the catalogue, its nodes have no room, or the entry at the name's
+/// place has that name already.
 pub fn plan_insert<V: Space>(
     alloc: Global,
     blocks: &mut Blocks<V>,
@@ -153,7 +179,9 @@ pub fn plan_insert<V: Space>(
 {
     let read = read_listed(alloc, blocks, group)?;
     is_address(read.heap.head.segment_at);
-    match draft_link(alloc, blocks, group, read, link, ahead) {
+    let place = free_place(group, &read, link.name)?;
+    let placed = PlacedLink { link, place };
+    match draft_link(alloc, blocks, group, read, placed, ahead) {
         Ok(drafted) => draft_plan(alloc, group.ks, drafted),
         Err(NoMemory) => Err(PlanStop::NoMemory),
     }

@@ -1,4 +1,4 @@
-ghost use Rattle.std.specs.Prelude.{◌≡◌, ◌+◌, ◌<◌, ◌^◌, List, map, IfErr, IfOk, IsErrOf, IsTrue, length};
+ghost use Rattle.std.specs.Prelude.{◌≡◌, ◌+◌, ◌<◌, ◌^◌, List, [], map, IfErr, IfOk, IsErrOf, IsTrue, length};
 ghost use Rattle.outside.specs.Blocks.{Block};
 ghost use Rattle.block_space.specs.Blocks.{Keeps, space_of};
 ghost use Rattle.block_space.specs.Plans.{FitsCatalogue};
@@ -14,7 +14,7 @@ ghost use Rattle.group_edit.specs.Removing.{AreSameNodes, IsRemoveDraft, IsRestD
 use crate::checking::{is_address, read_listed};
 use crate::draft::{Draft, Drafted, draft_plan};
 use block_space::{Blocks, EditPlan, PlanStop};
-use entry_list::place_of;
+use entry_list::{is_named, place_of};
 use group_heap::{base_of, tell_free, used_len};
 use group_layout::{IndexRows, Row, stay};
 use group_rows::{GroupAt, GroupRead, greatest};
@@ -77,7 +77,8 @@ fn draft_without(
     Ok(Drafted { draft, old })
 }
 
-/// What a group that was read is to be without the link of this name.
+/// What a group that was read is to be without the link of this name. `Malformed` comes where the entry at its place
+/// has another.
 fn draft_rest(
     alloc: Global,
     group: &GroupAt,
@@ -93,7 +94,7 @@ fn draft_rest(
     ensures calm { ¬ IsErrOf result PlanStop.Failed }
 {
     let place = place_of(&read.heap.segment, &read.entries, name);
-    if place >= read.entries.len() {
+    if !is_named(&read.heap.segment, &read.entries, place, name) {
         return Err(PlanStop::Malformed {
             at: group.tree_at,
             kind: BlockKind::Tree,
@@ -109,7 +110,8 @@ fn draft_rest(
 /// File Format Specification 3.0, III.A.1, III.B to III.D). It takes nothing. Nothing is written by it.
 ///
 /// Where the space doesn't tell its bytes, they may be others than when the catalogue was made: `Malformed` comes where
-/// the group isn't read again, a block of it isn't in the catalogue, its nodes have no room, or no link has the name.
+/// the group isn't read again, a block of it isn't in the catalogue, its nodes have no room, or the entry at the name's
+/// place has another name. So of the group as it is read again no other link is taken out.
 pub fn plan_remove<V: Space>(
     alloc: Global,
     blocks: &mut Blocks<V>,
@@ -124,6 +126,7 @@ pub fn plan_remove<V: Space>(
         → HoldsGroup (V.view (space_of blocks.old)).array group.now fs bs → HasName fs name.now }
     ensures removes { IsTrue V.tells
         → IfOk result (Removes (V.view (space_of blocks.old)) group.now name.now) }
+    ensures nothing { IfOk result (λ plan. plan.takes ≡ []) }
     ensures fits { IfOk result (λ plan. (met : List Block) → Keeps V.view blocks.old met → FitsCatalogue met plan) }
     ensures whole { IsTrue V.tells → IfErr result (λ stop. ¬ IsMalformed stop) }
     ensures reads { Reads V.view V.Alike V.faults blocks.old blocks.new result }

@@ -1,14 +1,17 @@
 use Rattle.std.proofs.Common.{List, subst, sym}
 use Rattle.outside.specs.Blocks.{Block}
 use Rattle.outside.specs.Space.{SpaceView}
-use Rattle.block_space.specs.Blocks.{Keeps}
+use Rattle.block_space.specs.Blocks.{Keeps, array_of}
 use Rattle.block_space.specs.Plans.{FitsCatalogue}
+use Rattle.group_rows.specs.Gathering.{IsMalformed}
+use Rattle.group_rows.proofs.CallLemmas.{passed}
 use Rattle.group_edit.specs.Drafts.{IsPlanFor}
 use Rattle.group_edit.specs.Edited.{Inserts, StaysWithin, TakesLink}
 use Rattle.group_edit.specs.Inserting.{IsInsertDraft}
 use Rattle.group_edit.proofs.BelowRead.{kept_below, segment_below}
 use Rattle.group_edit.proofs.InsertedPlan.{caches_with, insert_below, insert_fits, insert_inserts, insert_room}
 use Rattle.group_edit.proofs.InsertedPlan.{insert_takes, insert_within}
+use Rattle.group_edit.proofs.RemovedLinks.{read_links}
 use Rattle.group_edit.proofs.RemovedPlan.{ok_weaker}
 use Rattle.group_edit.proofs.inserting.plan_insert.Goals as goal
 
@@ -19,6 +22,18 @@ draft_link-requires-clause-within g c =
     segment_below c.args.group.now c.in_ok-read.read met (c.in_ok-read.ensures.among met keeps)
     (kept_below g.V.Space.view c.args.blocks.now (g.met.V.Space.sound _ c.requires.stands).regions met keeps)
     c.is_address.ensures
+
+pub returns-in_err-place-clause-whole : goal.returns-in_err-place-clause-whole
+returns-in_err-place-clause-whole g c = λ told.
+    let group = c.args.group.now in
+    let b = array_of g.V.Space.view c.args.blocks.now in
+    let held = c.requires.held told in
+    let rd = c.in_ok-read.ensures.found told held.links held.own held.has in
+    passed c.from_residual-in_err-place.result c.in_err-place.field-0.0 (λ stop. ¬ IsMalformed stop)
+    c.from_residual-in_err-place.ensures.1
+    (c.in_err-place.ensures.whole held.links
+    (read_links b group c.in_ok-read.read held.links held.own held.has rd) held.has.ordered
+    (c.requires.lacks told held.links held.own held.has))
 
 pub draft_plan-requires-clause-caches : goal.draft_plan-requires-clause-caches
 draft_plan-requires-clause-caches g c =

@@ -1,4 +1,4 @@
-use Rattle.std.proofs.Common.{List}
+use Rattle.std.proofs.Common.{◌≡◌, List, []}
 use Rattle.outside.specs.Blocks.{Block}
 use Rattle.block_space.specs.Blocks.{Keeps, array_of}
 use Rattle.block_space.specs.Plans.{FitsCatalogue}
@@ -8,7 +8,8 @@ use Rattle.group_edit.specs.Drafts.{IsPlanFor}
 use Rattle.group_edit.specs.Edited.{Removes}
 use Rattle.group_edit.proofs.BelowRead.{kept_below, segment_below}
 use Rattle.group_edit.proofs.RemovedLinks.{read_links}
-use Rattle.group_edit.proofs.RemovedPlan.{caches_left, ok_weaker, rest_below, rest_fits, rest_removes, rest_room}
+use Rattle.group_edit.proofs.RemovedPlan.{caches_left, no_takes, ok_weaker, rest_below, rest_fits, rest_removes}
+use Rattle.group_edit.proofs.RemovedPlan.{rest_room}
 use Rattle.group_edit.proofs.removing.plan_remove.Goals as goal
 
 pub draft_rest-requires-clause-within : goal.draft_rest-requires-clause-within
@@ -54,6 +55,15 @@ returns-clause-removes g c = λ told.
     (rest_removes group c.args.name.now c.in_ok-read.read draft c.in_ok-drafted.ensures.draft v
     c.in_ok-drafted.drafted.old.items c.in_ok-drafted.ensures.old (c.in_ok-read.ensures.found told)
     (c.requires.there told)) c.draft_plan.ensures.plan
+
+pub returns-clause-nothing : goal.returns-clause-nothing
+returns-clause-nothing g c =
+    let group = c.args.group.now in
+    let draft = c.in_ok-drafted.drafted.draft in
+    let images = c.in_ok-drafted.drafted.old.items in
+    ok_weaker c.draft_plan.result (IsPlanFor group.ks images draft) (λ plan. plan.takes ≡ [])
+    (no_takes group c.args.name.now c.in_ok-read.read draft c.in_ok-drafted.ensures.draft images)
+    c.draft_plan.ensures.plan
 
 pub returns-clause-fits : goal.returns-clause-fits
 returns-clause-fits g c =
