@@ -1,5 +1,6 @@
--- What one link more takes in a group: which blocks, and how many. It depends on the group's index and its heap.
--- Cited by what adds a link, and by what says how an edit of a file is answered.
+-- What one link more takes in a group, and what a new group takes: which blocks, and how many. The first depends on the
+-- group's index and its heap. Cited by what adds a link or makes a group, and by what says how an edit of a file is
+-- answered.
 use Rattle.std.specs.Prelude.{◌≡◌, ℕ, ◌+◌, ◌*◌, ◌<◌, ◌≤◌, List, [], ◌∷◌, ◌++◌, length, replicate, All}
 use Rattle.h5_base.specs.declared.extent.MemClass.TheVariants as class
 use Rattle.h5_base.specs.declared.kinds.BlockKind.TheVariants as kind
@@ -54,6 +55,18 @@ leaf_take ks = record { class = class.Tree; len = snod_len ks.leaf; kind = kind.
 
 abbrev pub node_take : Ks → Take
 node_take ks = record { class = class.Tree; len = group_node_len ks.internal; kind = kind.Tree }
+
+-- an object header of so many bytes, and so many bytes of a local heap, as they are taken
+abbrev pub header_take : ℕ → Take
+header_take len = record { class = class.Header; len = len; kind = kind.Header }
+
+abbrev pub heap_take : ℕ → Take
+heap_take len = record { class = class.LocalHeap; len = len; kind = kind.Heap }
+
+-- What a new group takes, in this order: its object header, the root of its B-tree, the header of its local heap, the
+-- heap's segment.
+abbrev pub group_takes : Ks → List Take
+group_takes ks = header_take 40 ∷ node_take ks ∷ heap_take 32 ∷ heap_take 88 ∷ []
 
 -- What one link of this name more takes in a group, in this order. The number of nodes is the only free choice.
 pub record TakesName (ks : Ks) (index : GroupIndex) (level len : ℕ) (segment : List ℕ) (name : Name) (ts : List Take)

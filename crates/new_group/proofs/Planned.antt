@@ -27,11 +27,11 @@ use Rattle.plan_pieces.specs.declared.image.NewBlock.{NewBlock}
 use Rattle.plan_pieces.specs.Images.{HaveImages, image_blocks, images_of}
 use Rattle.plan_pieces.specs.Plan.{IsPlanOf, IsWhole, NeedsBelow, TakesThere, bytes_in}
 use Rattle.plan_pieces.proofs.Planned.{plan_fits, plan_has}
-use Rattle.group_room.specs.Room.{node_take}
+use Rattle.group_room.specs.Room.{group_takes, node_take}
 use Rattle.group_rows.specs.declared.group.GroupAt.{GroupAt}
 use Rattle.group_facts.specs.Places.{ends_ahead, planned_ahead, taken_ahead}
 use Rattle.group_facts.proofs.PlaceLemmas.{one_ahead, taken_behind}
-use Rattle.new_group.specs.Group.{HoldsEmpty, empty_head, group_blocks, group_images, group_takes}
+use Rattle.new_group.specs.Group.{HoldsEmpty, empty_head, group_blocks, group_images}
 use Rattle.new_group.specs.Group.{header_fill, heap_fill, root_node, segment_fill, tree_fill}
 use Rattle.new_group.specs.Placed.{ArePlaces, group_fills}
 use Rattle.new_group.specs.Planned.{IsAheadThen, IsNewGroup, LieBelow}

@@ -7,7 +7,6 @@ use Rattle.h5_base.specs.declared.extent.MemClass.TheVariants as class
 use Rattle.h5_base.specs.declared.kinds.BlockKind.TheVariants as kind
 use Rattle.outside.specs.Array.{Array, bytes_of}
 use Rattle.outside.specs.Blocks.{Block, Agree}
-use Rattle.block_space.specs.declared.plan.Take.{Take}
 use Rattle.empty_file.specs.Empty.{heap_segment}
 use Rattle.header_codec.specs.Written.{header_bytes}
 use Rattle.header_codec.specs.declared.types.NewHeader.TheVariants as new
@@ -16,21 +15,14 @@ use Rattle.node_codec.specs.Heap.{heap_bytes}
 use Rattle.node_codec.specs.declared.group_node.GroupNode.{GroupNode}
 use Rattle.node_codec.specs.declared.heap.HeapHead.{HeapHead}
 use Rattle.file_model.specs.EditLaws.{group_at}
-use Rattle.file_model.specs.Groups.{Ks, HasLinks, index_offsets, node_block}
+use Rattle.file_model.specs.Groups.{HasLinks, index_offsets, node_block}
 use Rattle.file_model.specs.Holds.{IsGroup}
 use Rattle.file_model.specs.WellKept.{AreWellKept}
-use Rattle.group_room.specs.Room.{node_take}
 use Rattle.group_room.specs.Used.{IsFreeBehind, IsUsedLen}
 use Rattle.group_rows.specs.declared.group.GroupAt.{GroupAt}
 use Rattle.plan_pieces.specs.declared.image.NewBlock.{NewBlock}
 
--- how its blocks are taken: object header, root of the B-tree, header of the local heap, segment
-abbrev pub group_takes : Ks → List Take
-group_takes ks = record { class = class.Header; len = 40; kind = kind.Header } ∷ node_take ks
-    ∷ record { class = class.LocalHeap; len = 32; kind = kind.Heap }
-    ∷ record { class = class.LocalHeap; len = 88; kind = kind.Heap } ∷ []
-
--- where they lie
+-- where its blocks lie: object header, root of the B-tree, header of the local heap, segment
 abbrev pub group_blocks : GroupAt → (segment_at : ℕ) → List Block
 group_blocks g segment_at = record { start = g.header_at; len = 40 } ∷ node_block g.ks g.tree_at
     ∷ record { start = g.heap_at; len = 32 } ∷ record { start = segment_at; len = 88 } ∷ []

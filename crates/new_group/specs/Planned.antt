@@ -9,9 +9,10 @@ use Rattle.block_space.specs.Plans.{FitsCatalogue, all_needed, ends_after, neede
 use Rattle.block_space.specs.declared.plan.EditPlan.{EditPlan}
 use Rattle.block_space.specs.declared.plan.Needs.{Needs}
 use Rattle.file_model.specs.Groups.{Ks}
+use Rattle.group_room.specs.Room.{group_takes}
 use Rattle.group_facts.specs.Places.{ends_ahead, planned_ahead, taken_ahead}
 use Rattle.node_codec.specs.GroupNodes.{group_node_len}
-use Rattle.new_group.specs.Group.{HoldsEmpty, group_blocks, group_images, group_takes}
+use Rattle.new_group.specs.Group.{HoldsEmpty, group_blocks, group_images}
 use Rattle.new_group.specs.declared.new_group.NewGroup.{NewGroup}
 
 -- the addresses of the blocks that the plan takes are numbers of 64 bits

@@ -8,7 +8,6 @@ use Rattle.std.proofs.lemmas.List.Elements.{Contains-append_left, Contains-appen
 use Rattle.h5_base.specs.declared.extent.Extent.{Extent}
 use Rattle.h5_base.specs.declared.extent.MemClass.{MemClass}
 use Rattle.h5_base.specs.declared.extent.MemClass.TheVariants.{Super, Tree, Raw, GlobalHeap, LocalHeap, Header}
-use Rattle.h5_base.specs.declared.kinds.BlockKind.TheVariants as kind
 use Rattle.outside.specs.Array.{Array, Ends}
 use Rattle.outside.specs.Blocks.{Block, Agree, AllApart, AreApart, IsApart}
 use Rattle.outside.specs.Space.{SpaceView}
@@ -22,12 +21,12 @@ use Rattle.object_model.specs.Tree.{Name}
 use Rattle.file_model.specs.Groups.{Found, Ks}
 use Rattle.file_model.proofs.BlockOrder.{agree_through}
 use Rattle.group_room.specs.Index.{AreSmall}
-use Rattle.group_room.specs.Room.{Takes, leaf_take, node_take}
+use Rattle.group_room.specs.Room.{Takes, group_takes, header_take, heap_take, leaf_take, node_take}
 use Rattle.group_room.specs.Used.{name_end, segment_takes, wider_len}
 use Rattle.group_rows.specs.declared.group.GroupAt.{GroupAt}
 use Rattle.group_facts.specs.Places.{ends_ahead, planned_ahead, taken_ahead}
 use Rattle.group_facts.proofs.PlaceLemmas.{nothing_ahead}
-use Rattle.new_group.specs.Group.{HoldsEmpty, group_takes}
+use Rattle.new_group.specs.Group.{HoldsEmpty}
 use Rattle.new_group.specs.Planned.{IsNewGroup, LieBelow}
 use Rattle.new_group.specs.declared.new_group.NewGroup.{NewGroup}
 use Rattle.new_group.proofs.Stays.{empty_stays}
@@ -43,18 +42,12 @@ use Rattle.object_edit.proofs.Parts.{taken_in_parts}
 
 -- ---- lengths of what is taken
 
-abbrev header_take : Take
-header_take = record { class = Header; len = 40; kind = kind.Header }
-
-abbrev heap_take : ℕ → Take
-heap_take len = record { class = LocalHeap; len = len; kind = kind.Heap }
-
 whole_node : (ks : Ks) → IsWholeTake (node_take ks)
 whole_node ks = omega arith
 
 whole_group : (ks : Ks) → All IsWholeTake (group_takes ks)
 whole_group ks =
-    All-cons IsWholeTake header_take (node_take ks ∷ heap_take 32 ∷ heap_take 88 ∷ []) refl
+    All-cons IsWholeTake (header_take 40) (node_take ks ∷ heap_take 32 ∷ heap_take 88 ∷ []) refl
     (All-cons IsWholeTake (node_take ks) (heap_take 32 ∷ heap_take 88 ∷ []) (whole_node ks)
     (All-cons IsWholeTake (heap_take 32) (heap_take 88 ∷ []) refl
     (All-cons IsWholeTake (heap_take 88) [] refl (All-nil IsWholeTake))))

@@ -9,9 +9,9 @@ use Rattle.block_space.specs.Plans.{ends_after, planned, taken_blocks}
 use Rattle.block_space.specs.declared.plan.Take.{Take}
 use Rattle.object_model.specs.Tree.{Name}
 use Rattle.file_model.specs.Groups.{Found, Ks}
-use Rattle.group_room.specs.Room.{Takes}
+use Rattle.group_room.specs.Room.{Takes, group_takes}
 use Rattle.group_rows.specs.declared.group.GroupAt.{GroupAt}
-use Rattle.new_group.specs.Group.{HoldsEmpty, group_takes}
+use Rattle.new_group.specs.Group.{HoldsEmpty}
 use Rattle.group_edit.specs.declared.target.NewTarget.{NewTarget}
 use Rattle.group_edit.specs.Edited.{HasInserted, StaysWithin}
 use Rattle.group_edit.specs.Links.{HoldsGroup}

@@ -42,14 +42,15 @@ pub record AreChanged (old images changed : List Image) : Type 0 where
   pub all : IsPermutation images (changed ++ same)
   pub stand : (i : Image) → Contains same i → Contains old i
 
--- an image joins those that change, unless it stands already
+-- an image joins those that change, or it stands already
 abbrev pub Joins : (old : List Image) → Image → (before now : List Image) → Type 0
 Joins old i before now = (now ≡ before ++ i ∷ []) ⊎ (Contains old i × (now ≡ before))
 
 abbrev pub bytes_in : List Image → List (List ℕ)
 bytes_in = map (λ i. i.bytes)
 
--- The plan writes the images but for those that stand already, in ascending order, and takes the blocks.
+-- The plan writes the images in ascending order, of which it may leave out some that stand already, and takes the
+-- blocks.
 pub record IsPlanOf (old writes : List Image) (fills : List NewBlock) (plan : EditPlan) : Type 0 where
   pub images : List Image
   pub changed : AreChanged old writes images

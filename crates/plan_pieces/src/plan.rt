@@ -78,7 +78,7 @@ fn sorted_changes(
     }
 }
 
-/// The plan that writes the images, but for those that stand already, and takes the blocks, in this order. The
+/// The plan that writes the images and takes the blocks, in this order; it may leave out images that stand already. The
 /// addresses behind the images are numbers of 64 bits.
 pub fn make_plan(
     alloc: Global,

@@ -17,12 +17,12 @@ use Rattle.session_model.specs.State.{State, Plan, IsOver, IsUnder, Blocks, Segm
 use Rattle.session_model.specs.State.{tree_of, view_of, stack_of, need, needs_of}
 use Rattle.session_model.specs.Line.{Line, Refused, TooLarge, Over, Full as NoRoom, Done, NoTime, Makes}
 use Rattle.session_model.specs.GroupFile.{empty_super, empty_tree, empty_state, one_group}
-use Rattle.session_model.specs.Examples.{one_region_to, plain_file, mkgroup_g, group_takes, TwoAnswers, FullAnswer}
+use Rattle.session_model.specs.Examples.{one_region_to, plain_file, mkgroup_g, mkgroup_takes, TwoAnswers, FullAnswer}
 use Rattle.session_model.proofs.RoomLemmas.{group_takes_lem}
 
 -- ---- the plan of the first line
 
-takes_five : (limit : ℕ) (p : Plan (one_region_to limit) empty_state mkgroup_g) → p.takes ≡ group_takes
+takes_five : (limit : ℕ) (p : Plan (one_region_to limit) empty_state mkgroup_g) → p.takes ≡ mkgroup_takes
 unfolding empty_super
 takes_five limit p = (group_takes_lem p.takes).0 p.are
 
@@ -30,7 +30,7 @@ small_object : IsTooLarge empty_tree mkgroup_g → ⊥
 small_object (TooDeep h) = let g : 32 < 1 = h in omega (arith, g)
 small_object (TooMany h) = let g : 65536 < 2 = h in omega (arith, g)
 
-small_block : (x : Take) (k : ℕ) → k < 5 → slice_index_or group_takes k x ≡ x → 16777216 < x.len → ⊥
+small_block : (x : Take) (k : ℕ) → k < 5 → slice_index_or mkgroup_takes k x ≡ x → 16777216 < x.len → ⊥
 small_block x zero low is h = let n : 40 ≡ x.len = ap (λ (y : Take). y.len) is in omega (arith, h, n)
 small_block x (suc zero) low is h = let n : 544 ≡ x.len = ap (λ (y : Take). y.len) is in omega (arith, h, n)
 small_block x (suc (suc zero)) low is h = let n : 32 ≡ x.len = ap (λ (y : Take). y.len) is in omega (arith, h, n)
@@ -86,14 +86,14 @@ no_commit a comment h = cc
 
 -- what the five blocks need in one region
 need_five : (limit : ℕ) (p : Plan (one_region_to limit) empty_state mkgroup_g)
-    → need (one_region_to limit) p.takes class.Super ≡ need (one_region_to limit) group_takes class.Super
+    → need (one_region_to limit) p.takes class.Super ≡ need (one_region_to limit) mkgroup_takes class.Super
 need_five limit p = ap (λ (ts : List Take). need (one_region_to limit) ts class.Super) (takes_five limit p)
 
 abbrev NoRoomFor : (limit : ℕ) → List Take → (end need : ℕ) → Type 0
 NoRoomFor limit ts end need = IsNoRoom (view_of (one_region_to limit) empty_state) 5 (needs_of ts) (stop.Full end need)
 
 -- there is room in a plain file
-roomy : (end need : ℕ) → NoRoomFor (2 ^ 48) group_takes end need → ⊥
+roomy : (end need : ℕ) → NoRoomFor (2 ^ 48) mkgroup_takes end need → ⊥
 roomy end need (few, c, first, end_is, need_is) =
     let h : 2 ^ 48 < 800 + 1032 = first.short in omega (arith, h)
 
@@ -147,7 +147,7 @@ two_answers new moments left answers (s, a, later, one, (t, b, last, two, end, m
 
 -- ---- a region that is full
 
-full_is : (end need : ℕ) → NoRoomFor 800 group_takes end need → answer.Full end need ≡ answer.Full 800 1032
+full_is : (end need : ℕ) → NoRoomFor 800 mkgroup_takes end need → answer.Full end need ≡ answer.Full 800 1032
 full_is end need (few, c, first, end_is, need_is) = λ j. answer.Full (end_is j) (need_is j)
 
 pub full_answer : FullAnswer

@@ -18,7 +18,7 @@ use Rattle.session_model.specs.State.{Plan, Goes, IsTouched, InTaken}
 use Rattle.session_model.specs.Line.{Done, Does, AreBuilt, SameBeside}
 use Rattle.session_model.specs.GroupFile.{empty_bytes, empty_ks, empty_root, empty_tree, empty_state, empty_super}
 use Rattle.session_model.specs.GroupFile.{group_file, group_bytes, group_state, group_root, new_root, one_group}
-use Rattle.session_model.specs.Examples.{plain_file, mkgroup_g, group_takes, GroupEnds, GroupLine}
+use Rattle.session_model.specs.Examples.{plain_file, mkgroup_g, mkgroup_takes, GroupEnds, GroupLine}
 use Rattle.session_model.proofs.EmptyFile.{index_blocks, links}
 use Rattle.session_model.proofs.GroupFile.{group_full, all, all_are}
 use Rattle.session_model.proofs.RoomLemmas.{group_takes_lem}
@@ -69,10 +69,10 @@ in_parent a low high = record {
   inside = in_index a low high;
 }
 
-in_taken : (a : ℕ) → 800 ≤ a → a < 1832 → InTaken plain_file (λ c. 800) group_takes a
+in_taken : (a : ℕ) → 800 ≤ a → a < 1832 → InTaken plain_file (λ c. 800) mkgroup_takes a
 in_taken a low high = record { class = class.Super; behind = low; before = high }
 
-out_of_taken : (a : ℕ) → InTaken plain_file (λ c. 800) group_takes a → IsTouched one a
+out_of_taken : (a : ℕ) → InTaken plain_file (λ c. 800) mkgroup_takes a → IsTouched one a
 out_of_taken a x = go x.behind x.before
   where
     go : 800 ≤ a → a < 1832 → IsTouched one a
@@ -81,8 +81,8 @@ out_of_taken a x = go x.behind x.before
 pub plan : Plan plain_file empty_state mkgroup_g
 unfolding empty_super
 plan = record {
-  takes = group_takes;
-  are = (group_takes_lem group_takes).1 refl;
+  takes = mkgroup_takes;
+  are = (group_takes_lem mkgroup_takes).1 refl;
   ranges = one;
   touched = record {
     some = some;
@@ -121,7 +121,7 @@ stays a out = ⊎_elim
     (cases_lt a 1832))
     (cases_lt a 136)
 
-built : AreBuilt plain_file (λ c. 800) group_takes all
+built : AreBuilt plain_file (λ c. 800) mkgroup_takes all
 built = record {
   built = record { start = 800; len = 40 } ∷ record { start = 840; len = 544 } ∷ record { start = 1384; len = 32 }
       ∷ record { start = 1416; len = 88 } ∷ record { start = 1504; len = 328 } ∷ [];
@@ -153,7 +153,7 @@ does = record {
   tree = refl;
   held = group_full;
   ends = refl;
-  built = subst (λ (bs : List Block). AreBuilt plain_file (λ c. 800) group_takes bs) all_are built;
+  built = subst (λ (bs : List Block). AreBuilt plain_file (λ c. 800) mkgroup_takes bs) all_are built;
   stays = stays;
   flushed = tt;
   blocks = refl;

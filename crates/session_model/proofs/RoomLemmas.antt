@@ -11,9 +11,9 @@ use Rattle.file_model.specs.Groups.{Found, GroupIndex, HasLinks, index_offsets}
 use Rattle.file_model.specs.Holds.{GroupAt, Full, FullLinks, founds}
 use Rattle.file_model.proofs.NoFault.{no_element}
 use Rattle.group_room.specs.Used.{EndBefore, IsUsedLen, segment_takes}
-use Rattle.group_room.specs.Room.{Grows, FirstName, LaterName, leaf_take, node_take}
+use Rattle.group_room.specs.Room.{Grows, FirstName, LaterName, group_takes, header_take, leaf_take, node_take}
 use Rattle.group_room.specs.Room.{TakesName as NameTakes}
-use Rattle.session_model.specs.Room.{TakesName, TakesObject, new_group_takes, header_take}
+use Rattle.session_model.specs.Room.{TakesName, TakesObject}
 use Rattle.session_model.specs.GroupFile.{empty_bytes, empty_ks, empty_root, empty_tree, empty_index}
 use Rattle.session_model.specs.Examples.{GroupTakes, DataTakes}
 use Rattle.session_model.proofs.EmptyFile.{head, index_blocks, links, head_is, index_is}
@@ -120,7 +120,7 @@ takes_object n own ts h = record { name = leaf ∷ []; takes_name = takes_name n
 
 pub group_takes_lem : GroupTakes
 group_takes_lem ts =
-    (λ x. object_takes 103 (new_group_takes empty_ks) ts x, λ h. takes_object 103 (new_group_takes empty_ks) ts h)
+    (λ x. object_takes 103 (group_takes empty_ks) ts x, λ h. takes_object 103 (group_takes empty_ks) ts h)
 
 pub data_takes_lem : DataTakes
 data_takes_lem ts =

@@ -1,7 +1,7 @@
 -- Worked examples: what the first lines over an empty file take, where its region ends then, and what they are
 -- answered. Each is the clause of a small public function of this crate.
 use Rattle.std.specs.Prelude.{◌≤◌, ◌≡◌, ◌↔◌, ℕ, ◌+◌, ◌^◌, ◌<◌, false, true, List, [], ◌∷◌, ◌++◌, length, replicate}
-use Rattle.std.specs.Prelude.{ℤ, pos, codes, Some, None}
+use Rattle.std.specs.Prelude.{ℤ, map, pos, codes, Some, None}
 use Rattle.std.specs.Int.{w64, to_le_bytes}
 use Rattle.h5_base.specs.Fields.{undefined}
 use Rattle.h5_base.specs.declared.extent.MemClass.{MemClass}
@@ -25,8 +25,9 @@ use Rattle.object_model.specs.declared.answer.Code.TheVariants as code
 use Rattle.object_model.specs.Tree.{Group, Leaf, Empty, Link, Name}
 use Rattle.file_model.specs.Groups.{Ks, index_offsets}
 use Rattle.file_model.specs.Holds.{GroupAt, DataAt, DataLeaf, Full}
+use Rattle.group_room.specs.Room.{group_takes, header_take, heap_take, leaf_take}
 use Rattle.group_room.specs.Used.{IsUsedLen, segment_takes}
-use Rattle.session_model.specs.Room.{Takes, header_take, heap_take, raw_take}
+use Rattle.session_model.specs.Room.{Takes, raw_take}
 use Rattle.session_model.specs.TooLarge.{IsTooLarge, IsFillOver, IsDataOver, IsBoxOver}
 use Rattle.session_model.specs.EndFields.{member_end_at, HasEndFields}
 use Rattle.session_model.specs.State.{Setting, State, need, needs_of, risen, view_of}
@@ -47,26 +48,27 @@ plain_file = one_region_to (2 ^ 48)
 abbrev pub mkgroup_g : Command
 mkgroup_g = command.Mkgroup ((103 ∷ []) ∷ [])
 
-abbrev pub group_takes : List Take
-group_takes = record { class = class.Header; len = 40; kind = kind.Header }
-    ∷ record { class = class.Tree; len = 544; kind = kind.Tree }
-    ∷ record { class = class.LocalHeap; len = 32; kind = kind.Heap }
-    ∷ record { class = class.LocalHeap; len = 88; kind = kind.Heap }
-    ∷ record { class = class.Tree; len = 328; kind = kind.Snod } ∷ []
+-- the blocks of the new group, and a symbol table node of the root group
+abbrev pub mkgroup_takes : List Take
+mkgroup_takes = group_takes empty_ks ++ leaf_take empty_ks ∷ []
+
+-- they have these lengths
+abbrev pub GroupLengths : Type 0
+GroupLengths = map (λ (t : Take). t.len) mkgroup_takes ≡ 40 ∷ 544 ∷ 32 ∷ 88 ∷ 328 ∷ []
 
 -- it takes just these blocks
 abbrev pub GroupTakes : Type 0
-GroupTakes = (ts : List Take) → Takes empty_bytes empty_ks empty_tree mkgroup_g ts ↔ (ts ≡ group_takes)
+GroupTakes = (ts : List Take) → Takes empty_bytes empty_ks empty_tree mkgroup_g ts ↔ (ts ≡ mkgroup_takes)
 
 -- and the region ends at 1832
 abbrev pub GroupEnds : Type 0
-GroupEnds = ((c : MemClass) → risen plain_file (λ d. 800) group_takes c ≡ 1832)
-    × HasRoomFor (view_of plain_file empty_state) 5 (needs_of group_takes)
+GroupEnds = ((c : MemClass) → risen plain_file (λ d. 800) mkgroup_takes c ≡ 1832)
+    × HasRoomFor (view_of plain_file empty_state) 5 (needs_of mkgroup_takes)
 
 -- in a region of 800 bytes 1032 are wanting
 abbrev pub GroupFull : Type 0
-GroupFull = IsFirstShort (view_of (one_region_to 800) empty_state) (needs_of group_takes) class.Super
-    × (need (one_region_to 800) group_takes class.Super ≡ 1032)
+GroupFull = IsFirstShort (view_of (one_region_to 800) empty_state) (needs_of mkgroup_takes) class.Super
+    × (need (one_region_to 800) mkgroup_takes class.Super ≡ 1032)
 
 -- ---- two regions: Raw from 1048576 to 2097152, and all other classes below it
 

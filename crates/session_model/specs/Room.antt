@@ -32,22 +32,12 @@ use Rattle.file_model.specs.Index.{gather}
 use Rattle.file_model.specs.Groups.{Ks, HasLinks}
 use Rattle.file_model.specs.Chunks.{ChunkIndex, ChunkTreeNode, IsRooted, comes_before, chunk_at, chunk_sizes}
 use Rattle.file_model.specs.Holds.{GroupAt, DataAt, DataLeaf, Full, FullLinks, founds}
-use Rattle.group_room.specs.Room.{node_take, Takes as TakesLink}
+use Rattle.group_room.specs.Room.{group_takes, header_take, Takes as TakesLink}
 
 -- ---- a new object
 
-abbrev pub header_take : ℕ → Take
-header_take len = record { class = class.Header; len = len; kind = kind.Header }
-
-abbrev pub heap_take : ℕ → Take
-heap_take len = record { class = class.LocalHeap; len = len; kind = kind.Heap }
-
 abbrev pub raw_take : ℕ → Take
 raw_take len = record { class = class.Raw; len = len; kind = kind.Raw }
-
--- a new group's header, B-tree node, heap header and segment
-abbrev pub new_group_takes : Ks → List Take
-new_group_takes ks = header_take 40 ∷ node_take ks ∷ heap_take 32 ∷ heap_take 88 ∷ []
 
 abbrev pub new_fill : ElemType → Option Value → Fill
 new_fill elem None = fill.Zeros
@@ -168,7 +158,7 @@ is_taking (command.Commit comment) = false
 
 -- What a line that the tree doesn't refuse takes: a list of blocks by class, each to be rounded up to a multiple of 8.
 abbrev pub Takes : Array → Ks → Full → Command → List Take → Type 0
-Takes b ks t (command.Mkgroup p) ts = TakesObject b ks t p (new_group_takes ks) ts
+Takes b ks t (command.Mkgroup p) ts = TakesObject b ks t p (group_takes ks) ts
 Takes b ks t (command.Mkdata p elem dims chunk max fill) ts =
     TakesObject b ks t p (new_data_takes elem dims chunk max fill) ts
 Takes b ks t (command.Write p start count values) ts =

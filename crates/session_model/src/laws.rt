@@ -1,6 +1,7 @@
 //! Laws of what a line takes, is answered and leaves. Each function does nothing: its clause is the law.
 
 ghost use Rattle.session_model.specs.Examples.{GroupTakes, GroupEnds, GroupFull, RawFull, DataTakes, DataEnds};
+ghost use Rattle.session_model.specs.Examples.{GroupLengths};
 ghost use Rattle.session_model.specs.Examples.{WriteTakes, WriteEnds, EmptyBoxTakes, ChunkTakes, UsedLengths, Segments};
 ghost use Rattle.session_model.specs.Examples.{TwoAnswers, GroupLine, FlushLine, CommitLine, FullAnswer, DepthLimit};
 ghost use Rattle.session_model.specs.Examples.{FillLimit, ContiguousLimit, ChunkedLimit, ChunkLimit, RankLimit};
@@ -66,9 +67,10 @@ pub fn runs_nothing()
     ensures { RunsNothing }
 {}
 
-/// A first group takes five blocks, a first dataset two.
+/// A first group takes five blocks, of these lengths, a first dataset two.
 pub fn object_takes()
     ensures group { GroupTakes }
+    ensures lengths { GroupLengths }
     ensures data { DataTakes }
 {}
 
