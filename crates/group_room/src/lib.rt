@@ -1,2 +1,2 @@
-//! What one link more takes in a group.
+//! What one link more takes in a group, and what a new group takes.
 #![tactic(auto)]

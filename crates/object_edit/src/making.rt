@@ -32,7 +32,8 @@ pub struct GroupPlan {
 /// of 1 to 255 bytes without a NUL, isn't among the group's links. Nothing is written by it.
 ///
 /// Where the space doesn't tell its bytes, they may be others than when the catalogue was made: `Malformed` comes where
-/// the group isn't read again, a block of it isn't in the catalogue, or its nodes have no room.
+/// the group isn't read again, a block of it isn't in the catalogue, its nodes have no room, or the entry at the name's
+/// place has that name already.
 pub fn plan_mkgroup<V: Space>(
     alloc: Global,
     blocks: &mut Blocks<V>,

@@ -1,5 +1,5 @@
 -- What the first lines over an empty file take.
-use Rattle.std.proofs.Common.{◌≡◌, ℕ, ◌+◌, ◌<◌, ◌≤◌, List, [], ◌∷◌, ◌++◌, replicate, Ok, Result, refl}
+use Rattle.std.proofs.Common.{◌≡◌, ℕ, ◌<◌, List, [], ◌∷◌, ◌++◌, replicate, Ok, Result, refl}
 use Rattle.std.proofs.Common.{◌∙◌, ap, subst, arith, lit≤}
 use Rattle.outside.specs.Array.{bytes_of}
 use Rattle.outside.specs.Blocks.{Block}
@@ -16,7 +16,7 @@ use Rattle.group_room.specs.Room.{TakesName as NameTakes}
 use Rattle.session_model.specs.Room.{TakesName, TakesObject}
 use Rattle.session_model.specs.GroupFile.{empty_bytes, empty_ks, empty_root, empty_tree, empty_index}
 use Rattle.session_model.specs.Examples.{GroupTakes, DataTakes}
-use Rattle.session_model.proofs.EmptyFile.{head, index_blocks, links, head_is, index_is}
+use Rattle.session_model.proofs.EmptyFile.{index_blocks, links, head_is, index_is}
 
 abbrev leaf : Take
 leaf = leaf_take empty_ks

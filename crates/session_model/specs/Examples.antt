@@ -1,6 +1,6 @@
 -- Worked examples: what the first lines over an empty file take, where its region ends then, and what they are
 -- answered. Each is the clause of a small public function of this crate.
-use Rattle.std.specs.Prelude.{◌≤◌, ◌≡◌, ◌↔◌, ℕ, ◌+◌, ◌^◌, ◌<◌, false, true, List, [], ◌∷◌, ◌++◌, length, replicate}
+use Rattle.std.specs.Prelude.{◌≤◌, ◌≡◌, ◌↔◌, ℕ, ◌^◌, ◌<◌, false, true, List, [], ◌∷◌, ◌++◌, length, replicate}
 use Rattle.std.specs.Prelude.{ℤ, map, pos, codes, Some, None}
 use Rattle.std.specs.Int.{w64, to_le_bytes}
 use Rattle.h5_base.specs.Fields.{undefined}
