@@ -1,0 +1,17 @@
+pub mod IndexEdit
+pub mod Stays
+pub mod Taken
+pub mod Walked
+pub mod Plans
+pub mod Around
+pub mod Links
+pub mod Settled
+pub mod Done
+pub mod Parents
+pub mod Removing
+pub mod Small
+pub mod Made
+pub mod Making
+pub mod Judged
+pub mod Answered
+pub mod DoneLine
