@@ -34,7 +34,7 @@ use Rattle.group_lines.proofs.Plans.{was as was_of}
 use Rattle.group_lines.proofs.Stays.{blocks_stay}
 
 -- a part of a list in the middle goes to the front
-to_front : (first header index below : List Block)
+pub to_front : (first header index below : List Block)
     → IsPermutation (first ++ ((header ++ index) ++ below)) (index ++ (first ++ (header ++ below)))
 to_front first header index below =
     let swapped : IsPermutation ((header ++ index) ++ below) (index ++ (header ++ below)) =

@@ -1,2 +1,11 @@
 pub mod Resumed
 pub mod Looked
+pub mod Next
+pub mod MadeLine
+pub mod Planned
+pub mod Found
+pub mod Waited
+pub mod Did
+pub mod JudgedLine
+pub mod Kept
+pub mod Loose

@@ -1,1 +1,7 @@
 pub mod Session
+pub mod Stops
+pub mod Given
+pub mod Steps
+pub mod Waits
+pub mod Doing
+pub mod Making

@@ -1,4 +1,7 @@
-ghost use Rattle.std.specs.Prelude.{◌≡◌, List, None, IfErr, IfOk, IfSome, IsErrOf, IsTrue, OnOk};
+ghost use Rattle.std.specs.Prelude.{◌≡◌, List, None, IfErr, IfOk, IfSome, IsTrue, false};
+ghost use Rattle.std.specs.List.{Contains};
+ghost use Rattle.outside.specs.Blocks.{Block};
+ghost use Rattle.block_space.specs.Blocks.{Keeps, space_of};
 ghost use Rattle.h5_base.specs.declared.extent.MemClass.TheVariants as class;
 ghost use Rattle.h5_base.specs.Refusals.{refusal_of};
 ghost use Rattle.h5_base.specs.declared.refusal.Stop.TheVariants as stop;
@@ -6,9 +9,12 @@ ghost use Rattle.outside.specs.Causes.{OneRose};
 ghost use Rattle.outside.specs.Space.{bounds_of};
 ghost use Rattle.session_model.specs.Runs.{IsFresh};
 ghost use Rattle.h5_session.specs.Session.{IsBegun, IsSound, space_in};
-ghost use Rattle.file_model.specs.RefusedTree.{IsFileRefused};
+ghost use Rattle.file_model.specs.RefusedTree.{IsFileRefused, super_block};
+ghost use Rattle.object_tree.specs.Sound.{IsSoundTree};
+ghost use Rattle.tree_nodes.specs.Entries.{superblock_of};
 
 use block_space::Blocks;
+use h5_base::{BlockKind, NoMemory, Stop};
 use object_tree::{ObjectTree, TreeStop, open_tree};
 use outside::Space;
 use std::alloc::Global;
@@ -48,14 +54,43 @@ impl<V: Space> Session<V> {
     {
         let mut blocks = Blocks::new(alloc, space);
         match open_tree(alloc, &mut blocks) {
-            Ok(tree) => Ok(Session {
+            Ok(tree) => Session::begin(blocks, tree),
+            Err(why) => Err(ResumeRefused {
+                space: blocks.finish(),
+                why,
+            }),
+        }
+    }
+
+    // A session over an opened tree. The superblock's block is in the catalogue of each file that was opened; so that it
+    // is there too where a space doesn't tell its bytes, it is looked for.
+    fn begin(blocks: Blocks<V>, tree: ObjectTree) -> Result<Session<V>, ResumeRefused<V>>
+        requires tree { IsSoundTree tree }
+        requires listed { (met : List Block) × Keeps V.view blocks met }
+        ensures begun { IfOk result (λ session. (session.tree ≡ tree) × (session.edited ≡ false)
+            × (space_in session ≡ space_of blocks)) }
+        ensures kept { IfOk result (λ session. (met : List Block) → Keeps V.view blocks met
+            → Keeps V.view session.blocks met) }
+        ensures sound { IfOk result (IsSound V.view) }
+        ensures back { IfErr result (λ refused. refused.space ≡ space_of blocks) }
+        ensures no_fault { IfErr result (λ refused. ¬ (refused.why ≡ stop.Failed)) }
+        ensures told { (met : List Block) → Keeps V.view blocks met
+            → Contains met (super_block (superblock_of tree)) → IfErr result (λ refused. refused.why ≡ stop.NoMemory) }
+    {
+        let mut blocks = blocks;
+        match blocks.holds(0, tree.superblock().byte_len()) {
+            Ok(true) => Ok(Session {
                 blocks,
                 tree,
                 edited: false,
             }),
-            Err(why) => Err(ResumeRefused {
+            Ok(false) => Err(ResumeRefused {
                 space: blocks.finish(),
-                why,
+                why: Stop::malformed(0, BlockKind::Super),
+            }),
+            Err(NoMemory) => Err(ResumeRefused {
+                space: blocks.finish(),
+                why: Stop::NoMemory,
             }),
         }
     }
