@@ -14,28 +14,27 @@ use Rattle.group_lines.specs.States.{StandsFor, plain_setting}
 use Rattle.h5_session.specs.Session.{IsIn, IsSound, space_in}
 use Rattle.h5_session.specs.declared.session.Session.{Session}
 
-module _ {V : Type 0} (view : V → SpaceView) (old : Session V) (blocks : Blocks V)
-    (kept : (met : List Block) → Keeps view old.blocks met → Keeps view blocks met) where
+module _ {V : Type 0} (view : V → SpaceView) (old : Session V) (blocks : Blocks V) where
   -- the session with these blocks in place of its own
   abbrev pub next : Session V
   next = record { blocks = blocks; tree = old.tree; edited = old.edited }
 
   module _ (same : view (space_of blocks) ≡ view (space_in old)) where
-    pub same_in : (s : State) → IsIn view old s → IsIn view next s
-    same_in s i = record {
+    pub same_in : (s : State) (i : IsIn view old s) → Keeps view blocks i.met → IsIn view next s
+    same_in s i keeps = record {
       met = i.met;
-      keeps = kept i.met i.keeps;
+      keeps = keeps;
       stands = subst (λ (v : SpaceView). StandsFor (plain_setting v) v s i.met) (sym same) i.stands;
       places = i.places;
       super = i.super;
       edited = i.edited;
     }
 
-    pub same_sound : IsSound view old → IsSound view next
-    same_sound h = record {
+    pub same_sound : (h : IsSound view old) → Keeps view blocks h.met → IsSound view next
+    same_sound h keeps = record {
       tree = h.tree;
       met = h.met;
-      keeps = kept h.met h.keeps;
+      keeps = keeps;
       super = h.super;
       closes = λ is without. subst (λ (v : SpaceView). Contains (blocks_of v.prepared) (field_of (superblock_of old.tree).version))
           (sym same) (h.closes is (sym (ap (λ (v : SpaceView). v.committed) same) ∙ without));
@@ -43,10 +42,10 @@ module _ {V : Type 0} (view : V → SpaceView) (old : Session V) (blocks : Block
 
   module _ (readied : view (space_of blocks) ≡ record (view (space_in old)) { prepared = (view (space_of blocks)).prepared })
     where
-      pub readied_in : (s : State) → IsIn view old s → IsIn view next s
-      readied_in s i = record {
+      pub readied_in : (s : State) (i : IsIn view old s) → Keeps view blocks i.met → IsIn view next s
+      readied_in s i keeps = record {
         met = i.met;
-        keeps = kept i.met i.keeps;
+        keeps = keeps;
         stands = subst (λ (v : SpaceView). StandsFor (plain_setting v) v s i.met) (sym readied) (record {
           told = record {
             array = i.stands.told.array;
@@ -68,11 +67,11 @@ module _ {V : Type 0} (view : V → SpaceView) (old : Session V) (blocks : Block
       pub readied_sound : (Contains (blocks_of (view (space_in old)).prepared) (field_of (superblock_of old.tree).version)
           → (view (space_in old)).committed ≡ None
           → Contains (blocks_of (view (space_of blocks)).prepared) (field_of (superblock_of old.tree).version))
-          → IsSound view old → IsSound view next
-      readied_sound given h = record {
+          → (h : IsSound view old) → Keeps view blocks h.met → IsSound view next
+      readied_sound given h keeps = record {
         tree = h.tree;
         met = h.met;
-        keeps = kept h.met h.keeps;
+        keeps = keeps;
         super = h.super;
         closes = λ is without.
             let none = sym (ap (λ (v : SpaceView). v.committed) readied) ∙ without in

@@ -9,3 +9,5 @@ pub mod Did
 pub mod JudgedLine
 pub mod Kept
 pub mod Loose
+pub mod Ended
+pub mod MadeStep

@@ -27,7 +27,7 @@ use Rattle.h5_session.specs.declared.stop.StepStop.TheVariants as stop
 module _ {V T : Type 0} (view : V → SpaceView) (Alike : V → V → Type 0) (faults : V → Counts) (old new : Session V)
     (r : Result T StepStop) (w : Waits view Alike faults old new r)
     (same : view (space_in old) ≡ view (space_in new)) where
-  pub waits_in : (s : State) → IsIn view old s → IsIn view new s
+  abbrev pub waits_in : (s : State) → IsIn view old s → IsIn view new s
   waits_in s i = record {
     met = i.met;
     keeps = w.kept i.met i.keeps;
@@ -37,7 +37,7 @@ module _ {V T : Type 0} (view : V → SpaceView) (Alike : V → V → Type 0) (f
     edited = w.edited ∙ i.edited;
   }
 
-  pub waits_sound : IsSound view old → IsSound view new
+  abbrev pub waits_sound : IsSound view old → IsSound view new
   waits_sound h = record {
     tree = (same_stays old.tree new.tree w.tree).sound h.tree;
     met = h.met;
@@ -54,7 +54,7 @@ module _ {V T : Type 0} (view : V → SpaceView) (Alike : V → V → Type 0) (f
           (h.closes (sym w.edited ∙ is) (ap (λ (v : SpaceView). v.committed) same ∙ without)))
 
 -- a stop is the same whatever the call would have answered else
-same_stop : {A B : Type 0} (why e : StepStop) → IsErrOf {T = A} (Err why) e → IsErrOf {T = B} (Err why) e
+pub same_stop : {A B : Type 0} (why e : StepStop) → IsErrOf {T = A} (Err why) e → IsErrOf {T = B} (Err why) e
 same_stop {A} {B} why e is =
     let same : why ≡ e = cc in
     subst (λ (x : StepStop). IsErrOf {T = B} (Err why) x) same refl

@@ -1,4 +1,4 @@
-//! A session over an opened file: its tree is kept, and what a line needs that edits is planned, judged and done.
+//! A session over an opened file: its tree is kept, and lines are answered from it and edit the file.
 #![tactic(auto)]
 
 mod doing;
